@@ -1,0 +1,14 @@
+pub mod Ring
+pub mod Inverse
+pub mod Roots
+pub mod Pow
+pub mod PolyOps
+pub mod Near
+pub mod Trim
+pub mod Interpolate
+pub mod Grid
+pub mod Dual
+pub mod Checks
+pub mod Ext
+pub mod Further
+pub mod NearestLemmas
