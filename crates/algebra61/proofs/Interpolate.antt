@@ -12,7 +12,8 @@ abbrev pub vanish : List Fp → List Fp
 vanish [] = oneₚ ∷ []
 vanish (r ∷ rs) = mul_list (negₚ r ∷ oneₚ ∷ []) (vanish rs)
 
-factor_ring : (r x : Fp) → negₚ r +ₚ x *ₚ (oneₚ +ₚ x *ₚ zeroₚ) ≡ x -ₚ r
+-- the value of the polynomial x - r
+pub factor_ring : (r x : Fp) → negₚ r +ₚ x *ₚ (oneₚ +ₚ x *ₚ zeroₚ) ≡ x -ₚ r
 factor_ring = by_dif2 _ (λ m n. simp difs (dif-same _ _ _ _ (omega arith)))
 
 one_ring : (x : Fp) → oneₚ +ₚ x *ₚ zeroₚ ≡ oneₚ

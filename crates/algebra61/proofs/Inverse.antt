@@ -76,5 +76,9 @@ pub mul_invₚ : (a : Fp) → (a ≡ zeroₚ → ⊥) → a *ₚ invₚ a ≡ on
 unfolding invₚ
 mul_invₚ a ne = inv_cases a (cases_lt 0 a.num) ne
 
+-- an inverse is the one of the definition
+pub inverse_is : (a b : Fp) → (a ≡ zeroₚ → ⊥) → a *ₚ b ≡ oneₚ → b ≡ invₚ a
+inverse_is a b ne h = cancel a b (invₚ a) ne (h ∙ sym (mul_invₚ a ne))
+
 -- the law, under a name that a function can cite
 pub ruleset inverse_rules = (mul_invₚ)

@@ -1,0 +1,5 @@
+pub mod Numbers
+pub mod Steps
+pub mod NameLaws
+pub mod NowLaws
+pub mod ShareLaws
