@@ -1,0 +1,4 @@
+pub mod Lists
+pub mod Coefficients
+pub mod Newton
+pub mod Lagrange

@@ -1,0 +1,5 @@
+pub mod Kernel
+pub mod Key
+pub mod Table
+pub mod Decoding
+pub mod Answers
