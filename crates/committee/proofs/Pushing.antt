@@ -1,0 +1,39 @@
+-- One more change, or one more grid, in a loop over the indexes from 1.
+use Rattle.std.proofs.Common.{◌≡◌, ℕ, ◌+◌, ◌-◌, ◌≤◌, List, [], ◌∷◌, ◌++◌, map, refl, sym, ap, ◌∙◌, arith, append_assoc, subst}
+use Rattle.std.specs.List.{range_with_len}
+use Rattle.std.proofs.lemmas.List.FromFn.{map-range_with_len_more}
+use Rattle.std.proofs.lemmas.List.{map-append}
+use Rattle.shelf.specs.Held as shelf
+use Rattle.keyroom.specs.declared.plan.Change.{Change}
+use Rattle.keyroom.specs.Changes.{change_of, changes_of}
+use Rattle.keyroom.specs.Outcome.{done_with}
+
+map-same : (xs : List ℕ) → map (λ i. i) xs ≡ xs
+map-same [] = refl
+map-same (x ∷ xs) = ap (λ (ys : List ℕ). x ∷ ys) (map-same xs)
+
+module _ {X : Type 0} (f : ℕ → X) where
+  pub pushed_more : (first old new : List X) (index : ℕ) → 1 ≤ index → old ≡ first ++ map f (range_with_len 1 (index - 1)) → new ≡ old ++ f index ∷ [] → new ≡ first ++ map f (range_with_len 1 (index + 1 - 1))
+  pushed_more first old new index low so_far pushed =
+      let more : index + 1 - 1 ≡ index - 1 + 1 = omega (arith, low) in
+      pushed ∙ ap (λ (xs : List X). xs ++ f index ∷ []) so_far ∙ append_assoc first (map f (range_with_len 1 (index - 1))) (f index ∷ [])
+      ∙ ap (λ (xs : List X). first ++ xs) (sym (map-range_with_len_more f 1 (index - 1) index (omega (arith, low))) ∙ ap (λ n. map f (range_with_len 1 n)) (sym more))
+
+  pub pushed_all : (first new : List X) (index n : ℕ) → index ≡ n + 1 → new ≡ first ++ map f (range_with_len 1 (index - 1)) → new ≡ first ++ map f (range_with_len 1 n)
+  pushed_all first new index n e so_far = let at : index - 1 ≡ n = omega (arith, e) in subst (λ k. new ≡ first ++ map f (range_with_len 1 k)) at so_far
+
+-- the indexes from 1, one more
+pub indexes_more : (old new : List ℕ) (index : ℕ) → 1 ≤ index → old ≡ range_with_len 1 (index - 1) → new ≡ old ++ index ∷ [] → new ≡ range_with_len 1 (index + 1 - 1)
+indexes_more old new index low so_far pushed =
+    let id : (xs : List ℕ) → map (λ i. i) xs ≡ xs = map-same in
+    pushed_more (λ i. i) [] old new index low (so_far ∙ sym (id (range_with_len 1 (index - 1)))) pushed ∙ id (range_with_len 1 (index + 1 - 1))
+
+-- one more change in a list of changes
+pub pushed_one : (changes new : List Change) (change : Change) (c : shelf.Change) → new ≡ changes ++ change ∷ [] → change_of change ≡ c → changes_of new ≡ changes_of changes ++ c ∷ []
+pushed_one changes new change c pushed is = ap changes_of pushed ∙ map-append change_of changes (change ∷ []) ∙ ap (λ (x : shelf.Change). changes_of changes ++ x ∷ []) is
+
+pub put_same : (n m b d : List ℕ) → n ≡ m → b ≡ d → shelf.Put n b ≡ shelf.Put m d
+put_same n m b d e f = rw (e, f) refl
+
+pub done_same : (n : ℕ) (a b : List shelf.Change) (t s : List ℕ) → a ≡ b → t ≡ s → done_with n a t ≡ done_with n b s
+done_same n a b t s e f = rw (e, f) refl

@@ -1,0 +1,4 @@
+pub mod Create
+pub mod Meaning
+pub mod Causes
+pub mod Answer

@@ -1,0 +1,35 @@
+-- The meaning of a command: one equation for each.
+use Rattle.std.specs.Prelude.{◌≡◌, ◌⊎◌, ◌≤◌, ℕ, List, length, Option, IfSome}
+use Rattle.shelf.specs.Held.{Held}
+use Rattle.keyroom.specs.Words.{Command, Create, Recover, Check, ReadsAs, IsUsage}
+use Rattle.keyroom.specs.declared.status.Status.TheVariants.{Usage}
+use Rattle.keyroom.specs.Outcome.{Outcome, refused}
+use Rattle.keyroom.specs.Recover.{MeansRecover}
+use Rattle.keyroom.specs.Check.{MeansCheck}
+use Rattle.committee.specs.Create.{MeansCreate}
+
+-- what a command is given: what the shelf holds, and the seeds to come, where they are told
+pub record Given : Type 0 where
+  pub held : Held
+  pub coming : Option (List (List ℕ))
+
+abbrev pub MeansCommand : Command → Given → Outcome → Type 0
+MeansCommand (Create name n t) given = MeansCreate name n t given.held given.coming
+MeansCommand (Recover name) given = MeansRecover name given.held
+MeansCommand (Check name) given = MeansCheck name given.held
+
+-- what the words mean: no command is Usage, and a command is what it means
+abbrev pub Means : List (List ℕ) → Given → Outcome → Type 0
+Means words given outcome =
+    (IsUsage words × (outcome ≡ refused Usage))
+    ⊎ ((command : Command) × ReadsAs words command × MeansCommand command given outcome)
+
+-- how many seeds a command may take
+abbrev pub seeds_named : Command → ℕ
+seeds_named (Create name n t) = n
+seeds_named (Recover name) = 0
+seeds_named (Check name) = 0
+
+-- the seeds to come are enough for the command that the words are, where they are told
+abbrev pub AreEnough : List (List ℕ) → Option (List (List ℕ)) → Type 0
+AreEnough words coming = (command : Command) → ReadsAs words command → IfSome coming (λ seeds. seeds_named command ≤ length seeds)

@@ -1,0 +1,220 @@
+ghost use Rattle.std.specs.Prelude.{◌≤◌};
+
+use super::*;
+use field61::Fe;
+use keyroom::{MemberState, check_key, recover_key};
+use sharefile::{KeyName, NowFile, ShareFile, write_now, write_share};
+use shelf::{MemoryEntropy, MemoryShelf, MemorySink, Shelf};
+use std::alloc::Global;
+use std::test::Fail;
+
+fn words(alloc: Global, texts: &[&str]) -> Result<Vec<String>, Fail> {
+    let mut words = Vec::new(alloc);
+    for text in texts {
+        words.push(String::from_str(alloc, *text)?)?;
+    }
+    Ok(words)
+}
+
+fn put_share(
+    alloc: Global,
+    shelf: &mut MemoryShelf,
+    file: &str,
+    index: u32,
+    first: u64,
+) -> Result<(), Fail>
+    requires low { 1 ≤ index }
+    requires high { index ≤ 4 }
+{
+    let zero = Fe::ZERO;
+    let share = ShareFile {
+        name: KeyName::from_text("k1").ok_or("a name")?,
+        n: 4,
+        t: 1,
+        index,
+        period: 1,
+        lanes: [Fe::reduce(first), zero, zero, zero, zero],
+    };
+    shelf.put(alloc, file, &write_share(alloc, &share)?)?;
+    Ok(())
+}
+
+/// A shelf with the key `k1` of 4 members in period 1. In lane 0 the shares are 10, 13, 16 and 19, which lie on
+/// 7 + 3x, but for member 3, whose share is handed in; the other lanes are 0.
+fn shelf_of(alloc: Global, third: u64) -> Result<MemoryShelf, Fail> {
+    let mut shelf = MemoryShelf::new(alloc, Vec::new(alloc));
+    let now = NowFile {
+        name: KeyName::from_text("k1").ok_or("a name")?,
+        n: 4,
+        t: 1,
+        period: 1,
+        next_number: 0,
+    };
+    shelf.put(alloc, "k1.now", &write_now(alloc, &now)?)?;
+    put_share(alloc, &mut shelf, "k1.1.1.share", 1, 10)?;
+    put_share(alloc, &mut shelf, "k1.1.2.share", 2, 13)?;
+    put_share(alloc, &mut shelf, "k1.1.3.share", 3, third)?;
+    put_share(alloc, &mut shelf, "k1.1.4.share", 4, 19)?;
+    Ok(shelf)
+}
+
+/// The entropy whose seeds are 32 bytes 1, 32 bytes 2, and so on.
+fn four_seeds(alloc: Global, fails: &[u64]) -> Result<MemoryEntropy, Fail> {
+    let mut seeds = Vec::new(alloc);
+    for byte in 1..5u8 {
+        seeds.push([byte; 32])?;
+    }
+    Ok(MemoryEntropy::new(seeds, fails.to_vec(alloc)?))
+}
+
+/// Runs a command over a calm entropy and sink, and fails where its line or its text is another.
+fn runs(
+    alloc: Global,
+    shelf: &mut MemoryShelf,
+    texts: &[&str],
+    line: &str,
+    text: &str,
+) -> Result<(), Fail> {
+    let mut entropy = four_seeds(alloc, &[])?;
+    let mut out = MemorySink::new(alloc, Vec::new(alloc));
+    let status = run(alloc, &words(alloc, texts)?, shelf, &mut entropy, &mut out);
+    if status.line(alloc)?.as_str() != line {
+        return Err("another line".into());
+    }
+    if out.bytes() != text.as_bytes() {
+        return Err("another text".into());
+    }
+    Ok(())
+}
+
+#[test]
+fn recovers_and_checks_with_wrong_and_missing_shares(rt: HostRuntime) -> Result<(), Fail> {
+    let alloc = rt.alloc();
+    let mut whole = shelf_of(alloc, 16)?;
+    let text = "recover k1 4 1 period 1\n\
+        member 1 ok\nmember 2 ok\nmember 3 ok\nmember 4 ok\n\
+        key 133e7f97ad4b6a1fc1bebc9e6a35d495f3de8d4df7615d75d074b69f4d1ec0c3\n";
+    runs(alloc, &mut whole, &["recover", "k1"], "", text)?;
+    whole.remove(alloc, "k1.1.1.share")?;
+    whole.put(alloc, "k1.1.1.share", b"DKSH")?;
+    let text = "check k1 4 1 period 1\nmember 1 damaged\nmember 2 ok\nmember 3 ok\nmember 4 ok\n";
+    runs(alloc, &mut whole, &["check", "k1"], "", text)?;
+    let mut wrong = shelf_of(alloc, 99)?;
+    let text = "recover k1 4 1 period 1\n\
+        member 1 ok\nmember 2 ok\nmember 3 wrong\nmember 4 ok\n\
+        key 133e7f97ad4b6a1fc1bebc9e6a35d495f3de8d4df7615d75d074b69f4d1ec0c3\n";
+    runs(alloc, &mut wrong, &["recover", "k1"], "", text)?;
+    wrong.remove(alloc, "k1.1.1.share")?;
+    runs(
+        alloc,
+        &mut wrong,
+        &["recover", "k1"],
+        "refused 6 lane 0",
+        "",
+    )?;
+    Ok(())
+}
+
+#[test]
+fn recover_key_and_check_key_give_the_states(rt: HostRuntime) -> Result<(), Fail> {
+    let alloc = rt.alloc();
+    let name = KeyName::from_text("k1").ok_or("a name")?;
+    let mut shelf = shelf_of(alloc, 99)?;
+    let Ok(recovered) = recover_key(alloc, &mut shelf, &name) else {
+        return Err("a key".into());
+    };
+    assert_eq!(rt; recovered.lanes[0].get(), 7);
+    assert_eq!(rt; recovered.file.period, 1);
+    let Ok(checked) = check_key(alloc, &mut shelf, &name) else {
+        return Err("states".into());
+    };
+    let members = checked.members.copy(alloc)?;
+    assert_eq!(rt; members.len(), 4);
+    assert_eq!(rt; *members.at(1), MemberState::Fine);
+    assert_eq!(rt; *members.at(2), MemberState::Wrong);
+    Ok(())
+}
+
+/// Runs words that are no command over an empty shelf.
+fn is_usage(alloc: Global, texts: &[&str]) -> Result<(), Fail> {
+    let mut shelf = MemoryShelf::new(alloc, Vec::new(alloc));
+    runs(alloc, &mut shelf, texts, "refused 2 usage", "")?;
+    if shelf.len() != 0 {
+        return Err("a changed shelf".into());
+    }
+    Ok(())
+}
+
+#[test]
+fn refuses_words_that_are_no_command(rt: HostRuntime) -> Result<(), Fail> {
+    let alloc = rt.alloc();
+    is_usage(alloc, &[])?;
+    is_usage(alloc, &["recover"])?;
+    is_usage(alloc, &["recover", "K1"])?;
+    is_usage(alloc, &["recover", "k1", "--help"])?;
+    is_usage(alloc, &["create", "K1", "4", "1"])?;
+    is_usage(alloc, &["create", "k1", "6", "1"])?;
+    is_usage(alloc, &["create", "k1", "4", "2"])?;
+    is_usage(alloc, &["create", "k1", "04", "1"])?;
+    is_usage(alloc, &["create", "k1", "4", "1", "--help"])?;
+    is_usage(alloc, &["help"])?;
+    Ok(())
+}
+
+#[test]
+fn refuses_a_key_that_is_not_held(rt: HostRuntime) -> Result<(), Fail> {
+    let alloc = rt.alloc();
+    let mut shelf = MemoryShelf::new(alloc, Vec::new(alloc));
+    runs(
+        alloc,
+        &mut shelf,
+        &["recover", "k9"],
+        "refused 3 nosuch now",
+        "",
+    )
+}
+
+#[test]
+fn creates_a_key_that_recover_finds(rt: HostRuntime) -> Result<(), Fail> {
+    let alloc = rt.alloc();
+    let mut shelf = MemoryShelf::new(alloc, Vec::new(alloc));
+    // What a stopped create may have left.
+    shelf.put(alloc, "k1.1.9.share", b"left")?;
+    let text = "create k1 4 1 period 1\n\
+        round 1 mask 15\nround 2 mask 15\nround 3 mask 15\nround 4 mask 15\nround 5 mask 15\n\
+        accepted 20 of 20\nshares 1 2 3 4\n";
+    runs(alloc, &mut shelf, &["create", "k1", "4", "1"], "", text)?;
+    assert_eq!(rt; shelf.len(), 5);
+    assert!(rt; shelf.get(alloc, "k1.1.9.share")?.is_none());
+    // The key is the sum of the four members' constants, drawn from their seeds by another implementation.
+    let text = "recover k1 4 1 period 1\n\
+        member 1 ok\nmember 2 ok\nmember 3 ok\nmember 4 ok\n\
+        key e39a69c229a5f7107d42fc6b86e467b611279a1c57d1dfa4befdb8b2ee23bd95\n";
+    runs(alloc, &mut shelf, &["recover", "k1"], "", text)?;
+    runs(
+        alloc,
+        &mut shelf,
+        &["create", "k1", "4", "1"],
+        "refused 4 exists",
+        "",
+    )?;
+    Ok(())
+}
+
+#[test]
+fn changes_nothing_where_the_first_seed_fails(rt: HostRuntime) -> Result<(), Fail> {
+    let alloc = rt.alloc();
+    let mut shelf = MemoryShelf::new(alloc, Vec::new(alloc));
+    let mut out = MemorySink::new(alloc, Vec::new(alloc));
+    let status = run(
+        alloc,
+        &words(alloc, &["create", "k1", "4", "1"])?,
+        &mut shelf,
+        &mut four_seeds(alloc, &[0])?,
+        &mut out,
+    );
+    assert_eq!(rt; status, Status::EntropyFault);
+    assert_eq!(rt; shelf.len(), 0);
+    assert_eq!(rt; out.bytes().len(), 0);
+    Ok(())
+}

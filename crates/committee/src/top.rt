@@ -1,0 +1,104 @@
+//! The call that the program makes.
+ghost use Rattle.std.specs.Prelude.{◌≡◌, ◌≢◌, ◌≤◌, ◌↔◌, List, [], ℕ, length, Ok, IfSome, IsSome, IfErr};
+ghost use Rattle.algebra61.specs.Polynomial.{Polynomial};
+ghost use Rattle.sharefile.specs.Files.{Now};
+ghost use Rattle.shelf.specs.Causes.{OnlyReads, Rose};
+ghost use Rattle.keyroom.specs.Words.{Recover, ReadsAs, texts, IsUsage, IsInRange};
+ghost use Rattle.keyroom.specs.Commands.{command_of};
+ghost use Rattle.keyroom.specs.Outcome.{Outcome, done};
+ghost use Rattle.keyroom.specs.Steps.{now_of, files_of};
+ghost use Rattle.keyroom.specs.Decoding.{EnoughLieOn};
+ghost use Rattle.keyroom.specs.Recover.{recovered_by};
+ghost use Rattle.keyroom.specs.Texts.{recover_text};
+ghost use Rattle.committee.specs.Meaning.{Given, MeansCommand, Means, AreEnough, seeds_named};
+ghost use Rattle.committee.specs.Answer.{PlansWith, Does, IsQuiet};
+ghost use Rattle.committee.specs.Causes.{IsFromSeededPlan};
+
+use crate::create::plan_create;
+use keyroom::{Command, Plan, Status, carry_out, plan_check, plan_recover, read_words};
+use shelf::{Entropy, Shelf, Sink};
+use std::alloc::Global;
+
+/// What a command will do. The shelf is only asked.
+fn plan<H: Shelf, E: Entropy>(
+    alloc: Global,
+    command: &Command,
+    shelf: &mut H,
+    entropy: &mut E,
+) -> Result<Plan, Status>
+    requires { IsInRange (command_of command.now) }
+    ensures reads { OnlyReads H.held H.fault_count H.calm shelf.old shelf.new }
+    ensures meaning { IfSome (H.held shelf.old) (λ m. PlansWith (MeansCommand (command_of command.now) (record { held = m; coming = E.coming entropy.old })) (E.coming entropy.old) (E.coming entropy.new) result) }
+    ensures later { E.fault_count entropy.old ≤ E.fault_count entropy.new }
+    ensures cause { IfErr result (IsFromSeededPlan (H.fault_count shelf.old) (H.fault_count shelf.new) (E.fault_count entropy.old) (E.fault_count entropy.new)) }
+    ensures calm { E.calm entropy.old → IfSome (E.coming entropy.old) (λ seeds. seeds_named (command_of command.now) ≤ length seeds) → E.calm entropy.new }
+{
+    match command {
+        Command::Create { name, n, t } => plan_create(alloc, name, *n, *t, shelf, entropy),
+        Command::Recover { name } => plan_recover(alloc, name, shelf),
+        Command::Check { name } => plan_check(alloc, name, shelf),
+    }
+}
+
+/// Does what the words say, and answers the status.
+///
+/// All that a command will change and print is made before the first change. Then the changes are made in their order,
+/// and the text is put out by one call.
+///
+/// `Done`: all of it was done. `SinkFault`: all changes were made, and a part of the text from its front may have gone
+/// out. `ShelfFault` and `OutOfMemory`: a part of the changes from their front was made, and nothing went out. Each other
+/// answer leaves the shelf and the sink as they were, and each but `EntropyFault` is exactly what the words and the files
+/// mean.
+pub fn run<H: Shelf, E: Entropy, K: Sink>(
+    alloc: Global,
+    words: &[String],
+    shelf: &mut H,
+    entropy: &mut E,
+    out: &mut K,
+) -> Status
+    // What the words mean is done, or a part of it where the outside or memory fails.
+    ensures meaning { IfSome (H.held shelf.old) (λ m.
+        Does (Means (texts words.now) (record { held = m; coming = E.coming entropy.old }))
+        (record { held = H.held shelf.old; coming = E.coming entropy.old; told = K.told out.old })
+        (record { held = H.held shelf.new; coming = E.coming entropy.new; told = K.told out.new }) result) }
+    // A refusal writes nothing.
+    ensures quiet { IsQuiet (K.told out.old) (K.told out.new) result }
+    // Usage is answered exactly where the words are no command.
+    ensures usage { (result ≡ Status.Usage) ↔ IsUsage (texts words.now) }
+    // A fault comes only where its count rose in this call.
+    ensures shelf_fault { result ≡ Status.ShelfFault → Rose (H.fault_count shelf.old) (H.fault_count shelf.new) }
+    ensures entropy_fault { result ≡ Status.EntropyFault → Rose (E.fault_count entropy.old) (E.fault_count entropy.new) }
+    ensures sink_fault { result ≡ Status.SinkFault → Rose (K.fault_count out.old) (K.fault_count out.new) }
+    // What is calm stays so, the entropy where it tells enough seeds.
+    ensures shelf_calm { H.calm shelf.old → H.calm shelf.new }
+    ensures entropy_calm { E.calm entropy.old → AreEnough (texts words.now) (E.coming entropy.old) → E.calm entropy.new }
+    ensures sink_calm { K.calm out.old → K.calm out.new }
+    // Over what is calm no fault is answered.
+    ensures no_shelf_fault { H.calm shelf.old → result ≢ Status.ShelfFault }
+    ensures no_entropy_fault { E.calm entropy.old → AreEnough (texts words.now) (E.coming entropy.old) → result ≢ Status.EntropyFault }
+    ensures no_sink_fault { K.calm out.old → result ≢ Status.SinkFault }
+{
+    let Some(command) = read_words(words) else {
+        return Status::Usage;
+    };
+    match plan(alloc, &command, shelf, entropy) {
+        Ok(plan) => carry_out(alloc, &plan, shelf, out),
+        Err(status) => status,
+    }
+}
+
+/// What the words and the outside mean has one status, whether or not the seeds to come are told.
+pub fn one_status()
+    ensures { (words : List (List ℕ)) (given : Given) (a b : Outcome) → Means words given a → Means words given b → a.status ≡ b.status }
+{}
+
+/// What the words and the outside mean is one outcome, where the seeds to come are told.
+pub fn one_meaning()
+    ensures { (words : List (List ℕ)) (given : Given) (a b : Outcome) → IsSome given.coming → Means words given a → Means words given b → a ≡ b }
+{}
+
+/// Any N - T honest share files are enough: where N - T valid share files lie on polynomials of degree at most T,
+/// `recover NAME` means that their values at 0 are the key, whatever the other files are.
+pub fn honest_files_are_recovered()
+    ensures { (words : List (List ℕ)) (name : List ℕ) (given : Given) (now : Now) (polys : List Polynomial) (outcome : Outcome) → ReadsAs words (Recover name) → now_of name given.held ≡ Ok now → EnoughLieOn now.n now.t (files_of now given.held) polys → Means words given outcome → outcome ≡ done [] (recover_text (recovered_by now (files_of now given.held) polys)) }
+{}

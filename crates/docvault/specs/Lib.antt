@@ -1,0 +1,5 @@
+pub mod Keys
+pub mod Hmac
+pub mod Box
+pub mod Masking
+pub mod Opening

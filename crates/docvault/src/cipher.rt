@@ -1,0 +1,43 @@
+//! The keystream over a document: the ChaCha20 word sequence under a key, with the document's number
+//! as its stream, from its first word on. Each word gives four bytes, the least significant first.
+ghost use Rattle.std.specs.Prelude.{◌≡◌, ◌≤◌, ◌+◌, length, take, drop};
+ghost use Rattle.docvault.specs.Box.{IsSealed};
+ghost use Rattle.docvault.specs.Masking.{IsMasked};
+
+use rand_chacha::ChaCha20Rng;
+use rand_core::SeedableRng;
+use rand_core::utils::NextWord;
+
+/// Takes the first bytes of a word, exclusive-or, into as many bytes from a place on.
+fn mask_word(bytes: &mut [u8], place: usize, count: usize, word: u32)
+    requires few { count ≤ 4 }
+    requires room { place + count ≤ length bytes.old }
+    ensures { IsMasked bytes.old bytes.new place count word }
+{
+    let mask = word.to_le_bytes();
+    for j in 0..count {
+        bytes[place + j] ^= mask[j];
+    }
+}
+
+/// Takes the keystream, exclusive-or, into all the bytes.
+pub(crate) fn apply_keystream(bytes: &mut [u8], enc_key: [u8; 32], number: u32)
+    ensures { IsSealed enc_key number bytes.old bytes.new }
+{
+    let mut words = ChaCha20Rng::from_seed(enc_key);
+    words.set_stream(number as u64);
+    let whole = bytes.len() / 4;
+    for i in 0..whole {
+        mask_word(bytes, 4 * i, 4, words.next_word());
+    }
+    mask_word(bytes, 4 * whole, bytes.len() % 4, words.next_word());
+}
+
+/// Takes the keystream, exclusive-or, into the bytes from a place on.
+pub(crate) fn apply_keystream_from(bytes: &mut [u8], start: usize, enc_key: [u8; 32], number: u32)
+    requires { start ≤ length bytes.old }
+    ensures front { take start bytes.new ≡ take start bytes.old }
+    ensures behind { IsSealed enc_key number (drop start bytes.old) (drop start bytes.new) }
+{
+    apply_keystream(&mut bytes[start..], enc_key, number);
+}

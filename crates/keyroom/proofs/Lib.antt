@@ -1,0 +1,9 @@
+pub mod Changes
+pub mod Asking
+pub mod Loops
+pub mod Deciding
+pub mod Sizes
+pub mod Digits
+pub mod Refusals
+pub mod Honest
+pub mod Checking

@@ -1,0 +1,6 @@
+use Rattle.std.proofs.Common.{◌≡◌, ◌++◌, take, string_bytes}
+use Rattle.keyroom.specs.Texts.{round_lines}
+use Rattle.keyroom.proofs.text.put_rounds.Given as goal
+
+abbrev pub invariant-loop-k : goal.invariant-loop-k
+invariant-loop-k l = string_bytes l.text ≡ string_bytes l.fn.text ++ round_lines 1 (take l.k l.masks)

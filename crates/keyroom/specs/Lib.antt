@@ -1,0 +1,12 @@
+pub mod Words
+pub mod Commands
+pub mod Names
+pub mod StatusLines
+pub mod Outcome
+pub mod Changes
+pub mod Answer
+pub mod Steps
+pub mod Decoding
+pub mod Recover
+pub mod Check
+pub mod Texts

@@ -1,0 +1,37 @@
+-- The number and the line of a status.
+use Rattle.std.specs.Prelude.{ℕ, List, [], ◌++◌, codes, decimal}
+use Rattle.sharefile.specs.Reading.{number_of}
+use Rattle.keyroom.specs.declared.status.Status.{Status}
+use Rattle.keyroom.specs.declared.status.Status.TheVariants.{Done, Usage, NoSuch, Exists, NoKey, ShelfFault, EntropyFault, SinkFault, OutOfMemory, BadNow}
+use Rattle.keyroom.specs.declared.status.What.{What}
+use Rattle.keyroom.specs.declared.status.What.TheVariants.{Now}
+
+-- the number that the program ends with
+abbrev pub code_of : Status → ℕ
+code_of Done = 0
+code_of Usage = 2
+code_of (NoSuch what) = 3
+code_of Exists = 4
+code_of (NoKey lane) = 6
+code_of ShelfFault = 10
+code_of EntropyFault = 11
+code_of SinkFault = 13
+code_of OutOfMemory = 14
+code_of (BadNow fault) = 15
+
+-- the word for a thing that isn't held
+abbrev pub what_text : What → List ℕ
+what_text Now = codes "now"
+
+-- the line, without a line feed
+abbrev pub status_line : Status → List ℕ
+status_line Done = []
+status_line Usage = codes "refused 2 usage"
+status_line (NoSuch what) = codes "refused 3 nosuch " ++ what_text what
+status_line Exists = codes "refused 4 exists"
+status_line (NoKey lane) = codes "refused 6 lane " ++ decimal lane
+status_line ShelfFault = codes "refused 10 shelf"
+status_line EntropyFault = codes "refused 11 entropy"
+status_line SinkFault = codes "refused 13 sink"
+status_line OutOfMemory = codes "refused 14 memory"
+status_line (BadNow fault) = codes "refused 15 now " ++ decimal (number_of fault)

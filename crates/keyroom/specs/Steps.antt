@@ -1,0 +1,57 @@
+-- Steps that more than one command takes.
+use Rattle.std.specs.Prelude.{ℕ, List, map, Bool, ◌&&◌, ◌==◌, Option, Some, None, Result, Ok, Err, if◌then◌else◌}
+use Rattle.std.specs.List.{range_with_len}
+use Rattle.std.specs.Str.{bytes_eq}
+use Rattle.std.specs.FinMap.{get}
+use Rattle.shelf.specs.Held.{Held}
+use Rattle.sharefile.specs.declared.fault.FileFault.{FileFault}
+use Rattle.sharefile.specs.declared.fault.FileFault.TheVariants.{Field}
+use Rattle.sharefile.specs.Files.{Now, Share}
+use Rattle.sharefile.specs.Reading.{now_at, share_at}
+use Rattle.keyroom.specs.declared.status.Status.{Status}
+use Rattle.keyroom.specs.declared.status.Status.TheVariants.{NoSuch, Exists, BadNow}
+use Rattle.keyroom.specs.declared.status.What.TheVariants.{Now as NowFile}
+use Rattle.keyroom.specs.declared.steps.Found.{Found}
+use Rattle.keyroom.specs.declared.steps.Found.TheVariants.{Absent, Invalid, Valid}
+use Rattle.keyroom.specs.Names.{now_name, share_name}
+
+-- the now file that these bytes are, under this name
+abbrev pub now_named : List ℕ → Result Now FileFault → Result Now Status
+now_named name (Ok f) = if bytes_eq f.name name then Ok f else Err (BadNow (Field 16))
+now_named name (Err fault) = Err (BadNow fault)
+
+abbrev pub now_step : List ℕ → Option (List ℕ) → Result Now Status
+now_step name None = Err (NoSuch NowFile)
+now_step name (Some bytes) = now_named name (now_at bytes)
+
+-- step: get NAME.now
+abbrev pub now_of : List ℕ → Held → Result Now Status
+now_of name held = now_step name (get held (now_name name))
+
+abbrev pub free_step : Option (List ℕ) → Result (Unit {0}) Status
+free_step None = Ok tt
+free_step (Some bytes) = Err Exists
+
+-- step: a name that is to be made must not be held
+abbrev pub free_of : List ℕ → Held → Result (Unit {0}) Status
+free_of name held = free_step (get held name)
+
+-- the share file is the one that was asked for
+abbrev pub is_asked : Now → ℕ → Share → Bool
+is_asked now index f = bytes_eq f.name now.name && (f.period == now.period) && (f.n == now.n) && (f.t == now.t) && (f.index == index)
+
+abbrev pub share_asked : Now → ℕ → Result Share FileFault → Found
+share_asked now index (Ok f) = if is_asked now index f then Valid f else Invalid
+share_asked now index (Err fault) = Invalid
+
+abbrev pub share_step : Now → ℕ → Option (List ℕ) → Found
+share_step now index None = Absent
+share_step now index (Some bytes) = share_asked now index (share_at bytes)
+
+-- what stands under the name of a member's share file
+abbrev pub share_of : Now → Held → ℕ → Found
+share_of now held index = share_step now index (get held (share_name now.name now.period index))
+
+-- step: get the share files of the members 1 to N, in order
+abbrev pub files_of : Now → Held → List Found
+files_of now held = map (share_of now held) (range_with_len 1 now.n)

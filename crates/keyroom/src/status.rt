@@ -1,0 +1,144 @@
+//! What a call of the program comes to.
+ghost use Rattle.std.specs.Prelude.{◌≡◌, ◌++◌, IfOk, string_bytes, codes};
+ghost use Rattle.keyroom.specs.StatusLines.{code_of, what_text, status_line};
+
+use field61::OutOfMemory;
+use sharefile::FileFault;
+use shelf::OutsideFault;
+use std::alloc::{AllocError, AllocFailed, Global};
+
+/// The thing that isn't held.
+#[derive(Clone, Copy, Debug, PartialEq, Eq)]
+pub enum What {
+    /// The key's now file.
+    Now,
+}
+
+/// The answer of a command. Each but `Done` is a refusal with a number and a line of its own.
+#[derive(Clone, Copy, Debug, PartialEq, Eq)]
+pub enum Status {
+    /// All of the command's work was done.
+    Done,
+    /// The words are no command.
+    Usage,
+    /// The named thing isn't held on the shelf.
+    NoSuch { what: What },
+    /// What would be made is held already.
+    Exists,
+    /// The files have no nearest polynomial in this lane, the least such lane.
+    NoKey { lane: u32 },
+    /// The shelf failed, and its count of faults rose.
+    ShelfFault,
+    /// The source of seeds failed, and its count of faults rose.
+    EntropyFault,
+    /// The sink failed, and its count of faults rose.
+    SinkFault,
+    /// Memory ran out.
+    OutOfMemory,
+    /// The now file's bytes are no now file of this name.
+    BadNow { fault: FileFault },
+}
+
+impl From<AllocError> for Status {
+    ghost use Rattle.std.specs.Prelude.{◌≡◌};
+    ghost use Rattle.keyroom.specs.declared.status.Status.TheVariants.{OutOfMemory};
+
+    ghost from_gives = { λ _ s. s ≡ OutOfMemory };
+
+    fn from(_: AllocError) -> Self {
+        Status::OutOfMemory
+    }
+}
+
+impl<T: Drop> From<AllocFailed<T>> for Status {
+    ghost use Rattle.std.specs.Prelude.{◌≡◌};
+    ghost use Rattle.keyroom.specs.declared.status.Status.TheVariants.{OutOfMemory};
+
+    ghost from_gives = { λ _ s. s ≡ OutOfMemory };
+
+    fn from(_: AllocFailed<T>) -> Self {
+        Status::OutOfMemory
+    }
+}
+
+impl From<OutOfMemory> for Status {
+    ghost use Rattle.std.specs.Prelude.{◌≡◌};
+    ghost use Rattle.keyroom.specs.declared.status.Status.TheVariants.{OutOfMemory};
+
+    ghost from_gives = { λ _ s. s ≡ OutOfMemory };
+
+    fn from(_: OutOfMemory) -> Self {
+        Status::OutOfMemory
+    }
+}
+
+fn no_such_line(alloc: Global, what: What) -> Result<String, OutOfMemory>
+    ensures { IfOk result (λ s. string_bytes s ≡ codes "refused 3 nosuch " ++ what_text what) }
+{
+    match what {
+        What::Now => Ok(format!(in alloc; "refused 3 nosuch now")?),
+    }
+}
+
+impl Status {
+    /// The number that the process ends with: 0 for `Done` alone.
+    pub fn code(&self) -> u8
+        ensures { result ≡ code_of self.now }
+    {
+        match self {
+            Status::Done => 0,
+            Status::Usage => 2,
+            Status::NoSuch { .. } => 3,
+            Status::Exists => 4,
+            Status::NoKey { .. } => 6,
+            Status::ShelfFault => 10,
+            Status::EntropyFault => 11,
+            Status::SinkFault => 13,
+            Status::OutOfMemory => 14,
+            Status::BadNow { .. } => 15,
+        }
+    }
+
+    /// The line of a refusal without a line feed, and the empty text for `Done`. The error is want of memory.
+    pub fn line(&self, alloc: Global) -> Result<String, OutOfMemory>
+        ensures { IfOk result (λ s. string_bytes s ≡ status_line self.now) }
+    {
+        match self {
+            Status::Done => Ok(String::new(alloc)),
+            Status::Usage => Ok(format!(in alloc; "refused 2 usage")?),
+            Status::NoSuch { what } => no_such_line(alloc, *what),
+            Status::Exists => Ok(format!(in alloc; "refused 4 exists")?),
+            Status::NoKey { lane } => Ok(format!(in alloc; "refused 6 lane {lane}")?),
+            Status::ShelfFault => Ok(format!(in alloc; "refused 10 shelf")?),
+            Status::EntropyFault => Ok(format!(in alloc; "refused 11 entropy")?),
+            Status::SinkFault => Ok(format!(in alloc; "refused 13 sink")?),
+            Status::OutOfMemory => Ok(format!(in alloc; "refused 14 memory")?),
+            Status::BadNow { fault } => {
+                let number = fault.number();
+                Ok(format!(in alloc; "refused 15 now {number}")?)
+            }
+        }
+    }
+
+    /// The status of a fault of the shelf.
+    pub(crate) fn of_shelf(fault: OutsideFault) -> Status
+        ensures failed { fault ≡ OutsideFault.Failed → result ≡ Status.ShelfFault }
+        ensures memory { fault ≡ OutsideFault.OutOfMemory → result ≡ Status.OutOfMemory }
+    {
+        match fault {
+            OutsideFault::Failed => Status::ShelfFault,
+            OutsideFault::OutOfMemory => Status::OutOfMemory,
+        }
+    }
+
+    /// The status of a fault of the sink.
+    pub(crate) fn of_sink(fault: OutsideFault) -> Status
+        ensures failed { fault ≡ OutsideFault.Failed → result ≡ Status.SinkFault }
+        ensures memory { fault ≡ OutsideFault.OutOfMemory → result ≡ Status.OutOfMemory }
+    {
+        match fault {
+            OutsideFault::Failed => Status::SinkFault,
+            OutsideFault::OutOfMemory => Status::OutOfMemory,
+        }
+    }
+}

@@ -1,0 +1,12 @@
+pub mod Views
+pub mod BitLemmas
+pub mod RoundSteps
+pub mod Keeps
+pub mod Notes
+pub mod ListLemmas
+pub mod Replay
+pub mod Logs
+pub mod Keeping
+pub mod Gathers
+pub mod Endings
+pub mod Seats

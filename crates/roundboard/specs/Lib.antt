@@ -1,0 +1,9 @@
+pub mod Rule
+pub mod Plays
+pub mod Cells
+pub mod Pages
+pub mod Logs
+pub mod Pens
+pub mod Answers
+pub mod Ends
+pub mod Closed
