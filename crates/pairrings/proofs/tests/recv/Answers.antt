@@ -1,0 +1,10 @@
+use Rattle.pairrings.specs.Ends.{SameRings}
+use Rattle.pairrings.proofs.Picks.{set_each}
+use Rattle.pairrings.proofs.EndLemmas.{rings_same}
+use Rattle.pairrings.proofs.RingLemmas.{rings_stay}
+use Rattle.pairrings.proofs.tests.recv.Goals as goal
+
+pub returns-clause-rings : goal.returns-clause-rings
+returns-clause-rings c =
+    rings_stay c.args.ends.now.items _ c.requires.rings
+    (set_each SameRings rings_same c.args.ends.now.items 1 c.index_mut-end.result.now c.recv.new.self c.index_mut-end.ensures.value c.recv.ensures.rings)

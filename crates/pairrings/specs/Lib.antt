@@ -1,0 +1,5 @@
+pub mod Counts
+pub mod Ends
+pub mod Laying
+pub mod Record
+pub mod Records

@@ -1,0 +1,52 @@
+-- A play of a phase, for all seats at once: the setting, who is down, the honest dealers' grids, and what those who
+-- are down say. All else is defined from these.
+use Rattle.std.specs.Prelude.{ℕ, zero, suc, ◌+◌, ◌*◌, Bool, true, false, List}
+use Rattle.algebra61.specs.Field.{Fp, zeroₚ, ◌+ₚ◌}
+use Rattle.sharing61.specs.Instance.{Dealer, Honest, Faulty, Instance, share}
+use Rattle.talk.specs.declared.messages.Post.{Post}
+use Rattle.talk.specs.declared.messages.Ring.{Ring}
+use Rattle.talk.specs.Shape.{Shape, dealer_of, lane_of}
+use Rattle.plays.specs.Read.{dealt_in, crossed_in, listed_in, shown_in, voted_in}
+
+-- down seat: the seat is faulty, or takes no part; it may say anything
+-- grid i: the grid of instance i, where its dealer is honest
+-- post round seat, ring round seat to: what a seat that is down says, as it is read
+pub record Play : Type 0 where
+  pub shape : Shape
+  pub down : ℕ → Bool
+  pub grid : ℕ → List (List Fp)
+  pub post : ℕ → ℕ → Post
+  pub ring : ℕ → ℕ → ℕ → Ring
+
+-- the seat of receiver j
+abbrev pub seat_of : Shape → ℕ → ℕ
+seat_of s j = s.shift + j
+
+-- an honest dealer has its grid; one that is down has what its messages of the first and the fourth round tell
+abbrev pub dealer_if : Bool → Play → ℕ → Dealer
+dealer_if false p i = Honest (p.grid i)
+dealer_if true p i =
+    Faulty (λ j. dealt_in p.shape.degree (lane_of i) (p.ring 1 (dealer_of i) (seat_of p.shape j)))
+    (λ j. shown_in (lane_of i) j (p.post 4 (dealer_of i)))
+
+-- instance i of a play: the sharing by one dealer in one lane
+unfoldable pub instance_of : Play → ℕ → Instance
+instance_of p i = record {
+  receivers = p.shape.receivers;
+  bound = p.shape.bound;
+  down = λ j. p.down (seat_of p.shape j);
+  dealer = dealer_if (p.down (dealer_of i)) p i;
+  crossed = λ k j. crossed_in i (p.ring 2 (seat_of p.shape k) (seat_of p.shape j));
+  listed = λ j k. listed_in i k (p.post 3 (seat_of p.shape j));
+  voted = λ j. voted_in i (p.post 5 (seat_of p.shape j));
+}
+
+-- the sum over the dealers 1 to n of the shares of receiver j in lane l. In an instance that isn't accepted the
+-- share is 0
+abbrev pub lane_sum : ℕ → Play → ℕ → ℕ → Fp
+lane_sum zero p l j = zeroₚ
+lane_sum (suc n) p l j = lane_sum n p l j +ₚ share (instance_of p (n * 5 + l)) j
+
+-- the created share of receiver j in lane l
+abbrev pub created_share : Play → ℕ → ℕ → Fp
+created_share p l j = lane_sum p.shape.dealers p l j

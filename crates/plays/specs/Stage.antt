@@ -1,0 +1,65 @@
+-- One seat's part in the sharing, as a machine: what it keeps after each round, and what it says in the next.
+use Rattle.std.specs.Prelude.{◌≡◌, ℕ, ◌-◌, Bool, ◌&&◌, not, cond, eqb, List, [], map, get_or}
+use Rattle.algebra61.specs.Field.{Fp}
+use Rattle.sharing61.specs.Rules.{Pair, pair_on, at_point}
+use Rattle.talk.specs.declared.messages.Complaint.{Complaint}
+use Rattle.talk.specs.declared.messages.Post.{Post}
+use Rattle.talk.specs.declared.messages.Post.TheVariants.{Quiet, Complaints, Reveals, Votes}
+use Rattle.talk.specs.declared.messages.Ring.{Ring}
+use Rattle.talk.specs.declared.messages.Ring.TheVariants.{Nothing, Dealt, Cross}
+use Rattle.talk.specs.declared.messages.Heard.{Heard}
+use Rattle.talk.specs.Shape.{Shape, instances, deals, receives}
+use Rattle.plays.specs.Said.{places, complaint_list, reveal_list, vote_list, cross_list, dealt_list}
+use Rattle.plays.specs.Seat.{holds, complains, reveals, says_yes, keeps, heard_accepted, pair_at}
+
+-- how far a seat has come, with what it keeps: the pairs by instance, the posts that it needs again, and what it is to
+-- post next. A seat that only deals keeps the posts of the third round; what else stands here it doesn't use
+pub data Stage : Type 0 where
+  AtReady : Stage
+  AtDealt : List Pair → Stage
+  AtCrossed : List Pair → List Complaint → Stage
+  AtComplained : List Pair → List Post → Stage
+  AtRevealed : List Pair → List Post → List Bool → Stage
+  AtDone : List Pair → List Bool → Stage
+
+-- the round in which a stage speaks
+abbrev pub Speaks : ℕ → Stage → Type 0
+Speaks round AtReady = round ≡ 1
+Speaks round (AtDealt ps) = round ≡ 2
+Speaks round (AtCrossed ps cs) = round ≡ 3
+Speaks round (AtComplained ps third) = round ≡ 4
+Speaks round (AtRevealed ps fourth votes) = round ≡ 5
+Speaks round (AtDone ps acc) = ⊥
+
+-- the receiver on a seat
+abbrev pub receiver_at : Shape → ℕ → ℕ
+receiver_at s seat = seat - s.shift
+
+-- what a seat keeps after hearing a round. own is the list of the grids that it deals
+abbrev pub stage_after : Shape → ℕ → List (List (List Fp)) → Heard → Stage → Stage
+stage_after s me own h AtReady = AtDealt (map (holds s me own h.rings) (places (instances s)))
+stage_after s me own h (AtDealt ps) = AtCrossed ps (complaint_list (instances s) s.receivers (complains s me ps h.rings))
+stage_after s me own h (AtCrossed ps cs) = AtComplained ps h.posts
+stage_after s me own h (AtComplained ps third) = AtRevealed ps h.posts (vote_list (instances s) (says_yes s me ps third h.posts))
+stage_after s me own h (AtRevealed ps fourth votes) = AtDone (map (keeps s me ps fourth h.posts) (places (instances s))) (map (heard_accepted s h.posts) (places (instances s)))
+stage_after s me own h (AtDone ps acc) = AtDone ps acc
+
+-- what a seat posts: a receiver its complaints and its votes, a dealer its reveals
+abbrev pub stage_post : Shape → ℕ → List (List (List Fp)) → Stage → Post
+stage_post s seat own AtReady = Quiet
+stage_post s seat own (AtDealt ps) = Quiet
+stage_post s seat own (AtCrossed ps cs) = cond (receives s seat) (Complaints cs) Quiet
+stage_post s seat own (AtComplained ps third) = cond (deals s seat) (Reveals (reveal_list s.degree s.receivers (reveals s own third seat))) Quiet
+stage_post s seat own (AtRevealed ps fourth votes) = cond (receives s seat) (Votes votes) Quiet
+stage_post s seat own (AtDone ps acc) = Quiet
+
+-- what a seat sends to another: a dealer the receiver's pairs, a receiver its values at the other's point
+abbrev pub stage_ring : Shape → ℕ → List (List (List Fp)) → Stage → ℕ → Ring
+stage_ring s seat own AtReady to =
+    cond (deals s seat && (receives s to && not (eqb seat to))) (Dealt (dealt_list s.degree (λ l. pair_on (get_or own l []) (receiver_at s to)))) Nothing
+stage_ring s seat own (AtDealt ps) to =
+    cond (receives s seat && (receives s to && not (eqb seat to))) (Cross (cross_list (instances s) (λ i. at_point (pair_at ps i) (receiver_at s to)))) Nothing
+stage_ring s seat own (AtCrossed ps cs) to = Nothing
+stage_ring s seat own (AtComplained ps third) to = Nothing
+stage_ring s seat own (AtRevealed ps fourth votes) to = Nothing
+stage_ring s seat own (AtDone ps acc) to = Nothing

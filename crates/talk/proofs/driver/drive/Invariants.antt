@@ -1,0 +1,19 @@
+use Rattle.std.proofs.Common.{◌≡◌, ◌+◌, ◌≤◌, length}
+use Rattle.talk.specs.Shape.{seats, rounds}
+use Rattle.talk.specs.Hears.{Hearing, Seated}
+use Rattle.talk.specs.Sync.{ways, sync, AllSpoken, all_seats, last_mask}
+use Rattle.talk.proofs.driver.drive.Given as goal
+
+abbrev pub invariant-loop-round : goal.invariant-loop-round
+invariant-loop-round g l =
+    let m = g.M.Mind in
+    let w = ways m.word m.after_say m.after_hear in
+    record {
+      all : length l.minds.items ≡ seats l.s;
+      count : length l.masks + 1 ≡ l.round;
+      now : l.minds.items ≡ sync w l.s 1 l.masks l.fn.minds.items;
+      spoken : AllSpoken w l.s 1 (all_seats l.s) l.masks l.fn.minds.items;
+      last : l.before ≡ last_mask (all_seats l.s) l.masks;
+      may : l.round ≤ rounds l.s → Hearing m.may_say l.round l.minds.items;
+      made : Seated m.made_for l.s 1 l.minds.items;
+    }

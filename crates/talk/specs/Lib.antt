@@ -1,0 +1,6 @@
+pub mod Shape
+pub mod Read
+pub mod Sync
+pub mod Hears
+pub mod Follow
+pub mod Law

@@ -1,0 +1,123 @@
+-- The synchronous run of a phase over any minds.
+use Rattle.std.specs.Prelude.{◌≡◌, ℕ, ◌+◌, ◌-◌, ◌^◌, ◌<◌, Bool, true, false, ◌&&◌, eqb, cond, List, [], ◌∷◌, get_or, map}
+use Rattle.std.specs.Int.{bit_at}
+use Rattle.talk.specs.declared.messages.Post.{Post}
+use Rattle.talk.specs.declared.messages.Post.TheVariants.{Quiet}
+use Rattle.talk.specs.declared.messages.Ring.{Ring}
+use Rattle.talk.specs.declared.messages.Ring.TheVariants.{Nothing}
+use Rattle.talk.specs.declared.messages.Say.{Say}
+use Rattle.talk.specs.declared.messages.Say.TheVariants.{Speak, Pass, PassThenSpeak}
+use Rattle.talk.specs.declared.messages.Heard.{Heard}
+use Rattle.talk.specs.Shape.{Shape, seats}
+use Rattle.talk.specs.Read.{as_read, ring_as_read}
+
+-- the seat is in the mask: its bit, the lowest for seat 1
+abbrev pub has : ℕ → ℕ → Bool
+has mask seat = eqb (bit_at mask (seat - 1)) 1
+
+-- what a word posts
+abbrev pub post_in : Say → Post
+post_in (Speak p rs) = p
+post_in Pass = Quiet
+post_in (PassThenSpeak p rs) = p
+
+-- what a word sends to a seat
+abbrev pub ring_in : ℕ → Say → Ring
+ring_in to (Speak p rs) = get_or rs (to - 1) Nothing
+ring_in to Pass = Nothing
+ring_in to (PassThenSpeak p rs) = get_or rs (to - 1) Nothing
+
+-- the posts that are heard, given the words of the seats from `seat` on
+abbrev pub posts_heard : Shape → ℕ → ℕ → ℕ → List Say → List Post
+posts_heard s round mask seat [] = []
+posts_heard s round mask seat (w ∷ ws) = cond (has mask seat) (as_read s round seat (post_in w)) Quiet ∷ posts_heard s round mask (seat + 1) ws
+
+-- the ring messages that are heard on the seat `to`
+abbrev pub rings_heard : Shape → ℕ → ℕ → ℕ → ℕ → List Say → List Ring
+rings_heard s round mask to seat [] = []
+rings_heard s round mask to seat (w ∷ ws) =
+    cond (has mask seat) (ring_as_read s round seat to (ring_in to w)) Nothing ∷ rings_heard s round mask to (seat + 1) ws
+
+-- what the mind on the seat `to` hears of all words, under the round's mask
+abbrev pub heard_at : Shape → ℕ → ℕ → List Say → ℕ → Heard
+heard_at s round mask words to = record { posts = posts_heard s round mask 1 words; rings = rings_heard s round mask to 1 words }
+
+-- a mask is a number whose bits are seats of the setting
+abbrev pub IsMask : Shape → ℕ → Type 0
+IsMask s mask = mask < 2 ^ seats s
+
+-- whether a seat may be in the mask now, given whether it was in the one before. A seat that was missing once is out: its word counts
+-- as a pass. Who speaks is in the mask, who passes isn't, and who speaks late may be
+abbrev pub MaySay : Bool → Bool → Say → Type 0
+MaySay before now (Speak p rs) = now ≡ before
+MaySay before now Pass = now ≡ false
+MaySay before now (PassThenSpeak p rs) = now ≡ true → before ≡ true
+
+-- the mask is one that the words of the seats from `seat` on allow after the mask before
+abbrev pub Allowed : ℕ → ℕ → ℕ → List Say → Type 0
+Allowed before mask seat [] = Unit {0}
+Allowed before mask seat (w ∷ ws) = MaySay (has before seat) (has mask seat) w × Allowed before mask (seat + 1) ws
+
+-- the word is said in time
+abbrev pub speaks : Say → Bool
+speaks (Speak p rs) = true
+speaks Pass = false
+speaks (PassThenSpeak p rs) = false
+
+-- the mask in which nobody is who speaks late
+abbrev pub Spoken : ℕ → ℕ → ℕ → List Say → Type 0
+Spoken before mask seat [] = Unit {0}
+Spoken before mask seat (w ∷ ws) = (has mask seat ≡ (has before seat && speaks w)) × Spoken before mask (seat + 1) ws
+
+-- all seats of the setting
+abbrev pub all_seats : Shape → ℕ
+all_seats s = 2 ^ seats s - 1
+
+-- the last mask, or the one before the first
+abbrev pub last_mask : ℕ → List ℕ → ℕ
+last_mask before [] = before
+last_mask before (mask ∷ masks) = last_mask mask masks
+
+-- how minds go: a mind's word in a round, what it is after saying it, and after hearing
+pub record Ways (M : Type 0) : Type 0 where
+  pub word : M → ℕ → Say
+  pub after_say : M → ℕ → M
+  pub after_hear : M → ℕ → Heard → M
+
+module _ {M : Type 0} where
+  abbrev pub ways : (M → ℕ → Say) → (M → ℕ → M) → (M → ℕ → Heard → M) → Ways M
+  ways word said heard = record { word = word; after_say = said; after_hear = heard }
+
+  -- the words of a round, by seat
+  abbrev pub words_of : Ways M → ℕ → List M → List Say
+  words_of w round ms = map (λ m. w.word m round) ms
+
+  -- the minds after saying them
+  abbrev pub after_words : Ways M → ℕ → List M → List M
+  after_words w round ms = map (λ m. w.after_say m round) ms
+
+  -- the minds after hearing, the first of which is on the seat `seat`
+  abbrev pub after_hears : Ways M → Shape → ℕ → ℕ → List Say → ℕ → List M → List M
+  after_hears w s round mask words seat [] = []
+  after_hears w s round mask words seat (m ∷ ms) = w.after_hear m round (heard_at s round mask words seat) ∷ after_hears w s round mask words (seat + 1) ms
+
+  -- the minds after a round
+  abbrev pub after_round : Ways M → Shape → ℕ → ℕ → List M → List M
+  after_round w s round mask ms = after_hears w s round mask (words_of w round ms) 1 (after_words w round ms)
+
+  -- the minds after the rounds of the masks, the first of which is `round`
+  abbrev pub sync : Ways M → Shape → ℕ → List ℕ → List M → List M
+  sync w s round [] ms = ms
+  sync w s round (mask ∷ masks) ms = sync w s (round + 1) masks (after_round w s round mask ms)
+
+  -- each mask is one that the words allow
+  abbrev pub AllAllowed : Ways M → Shape → ℕ → ℕ → List ℕ → List M → Type 0
+  AllAllowed w s round before [] ms = Unit {0}
+  AllAllowed w s round before (mask ∷ masks) ms =
+      IsMask s mask × Allowed before mask 1 (words_of w round ms) × AllAllowed w s (round + 1) mask masks (after_round w s round mask ms)
+
+  -- in each mask is exactly who was in the one before and speaks in time
+  abbrev pub AllSpoken : Ways M → Shape → ℕ → ℕ → List ℕ → List M → Type 0
+  AllSpoken w s round before [] ms = Unit {0}
+  AllSpoken w s round before (mask ∷ masks) ms =
+      IsMask s mask × Spoken before mask 1 (words_of w round ms) × AllSpoken w s (round + 1) mask masks (after_round w s round mask ms)

@@ -1,0 +1,21 @@
+//! What seats say to one another: messages, settings of a phase, minds, and the synchronous run.
+#![tactic(auto)]
+
+mod driver;
+pub mod laws;
+mod lists;
+mod masks;
+mod messages;
+mod mind;
+mod setting;
+mod shapes;
+#[cfg(test)]
+mod tests;
+
+pub use driver::{Driven, drive};
+pub use lists::{ComplaintList, PostList, RevealList, RingList, VoteList};
+pub use masks::{all_in, in_mask};
+pub use messages::{Complaint, Heard, Post, Reveal, Ring, Say};
+pub use mind::Mind;
+pub use setting::Setting;
+pub use shapes::{as_read, ring_as_read, ring_ok, shape_ok};

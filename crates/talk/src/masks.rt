@@ -1,0 +1,56 @@
+//! Masks of seats.
+
+ghost use Rattle.std.specs.Prelude.{◌≡◌, ℕ, ◌+◌, ◌-◌, ◌^◌, ◌<◌, ◌≤◌, ◌&&◌, length};
+ghost use Rattle.talk.specs.Shape.{seats};
+ghost use Rattle.talk.specs.Sync.{Spoken, all_seats, has, speaks};
+
+use crate::{Say, Setting};
+
+/// Whether a seat is in a mask: the bit of seat `s` is bit `s - 1`.
+pub fn in_mask(mask: u32, seat: u32) -> bool
+    requires { (1 ≤ seat) × (seat ≤ 30) }
+    ensures { result ≡ has mask seat }
+{
+    (mask >> (seat - 1)) & 1 == 1
+}
+
+/// The mask of all seats of a setting.
+pub fn all_in(s: &Setting) -> u32
+    ensures is { result ≡ all_seats s.now }
+    ensures mask { result < 2 ^ seats s.now }
+    ensures few { seats s.now ≤ 30 }
+{
+    let shift = s.seats();
+    (1 << shift) - 1
+}
+
+// The mask of those who were in the mask before and speak in time. Who speaks late is not in it.
+pub fn spoken_mask(words: &[Say], before: u32) -> u32
+    requires { length words.now ≤ 30 }
+    ensures mask { result < 2 ^ length words.now }
+    ensures spoken { Spoken before result 1 words.now }
+{
+    let mut mask = 0;
+    let mut seat = 1;
+    for word in words {
+        mask = mask_with(mask, seat, before, word);
+        seat += 1;
+    }
+    mask
+}
+
+// The mask of lower seats, with a seat where it was in the mask before and speaks in time.
+fn mask_with(mask: u32, seat: u32, before: u32, word: &Say) -> u32
+    requires seat { (1 ≤ seat) × (seat ≤ 30) }
+    requires lower { mask < 2 ^ (seat - 1) }
+    ensures below { result < 2 ^ seat }
+    ensures own { has result seat ≡ (has before seat && speaks word.now) }
+    ensures others { (k : ℕ) → 1 ≤ k → k < seat → has result k ≡ has mask k }
+{
+    let place = seat - 1;
+    if in_mask(before, seat) && word.speaks() {
+        mask | (1 << place)
+    } else {
+        mask
+    }
+}

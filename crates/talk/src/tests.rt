@@ -1,0 +1,255 @@
+//! Tests of shapes and of the run.
+
+ghost use Rattle.std.specs.Prelude.{◌≡◌, ◌∷◌, [], eqb, cond};
+ghost use Rattle.talk.specs.Shape.{seats};
+ghost use Rattle.talk.specs.declared.messages.Post.TheVariants.{Complaints};
+ghost use Rattle.talk.specs.declared.messages.Ring.TheVariants.{Nothing};
+ghost use Rattle.talk.specs.declared.messages.Say.TheVariants.{Pass, PassThenSpeak, Speak};
+
+use super::*;
+use field61::{Fe, FeList, OutOfMemory};
+use std::alloc::Global;
+
+fn elements(alloc: Global, count: u32) -> Result<FeList, OutOfMemory> {
+    let mut list = FeList::new(alloc);
+    for k in 0..count {
+        list.push(Fe::reduce(u64::from(k)))?;
+    }
+    Ok(list)
+}
+
+fn votes(alloc: Global, count: u32) -> Result<Post, OutOfMemory> {
+    let mut list = VoteList::new(alloc);
+    for k in 0..count {
+        list.push(k % 2 == 0)?;
+    }
+    Ok(Post::Votes { list })
+}
+
+fn complaints(alloc: Global, items: &[(u32, u32)]) -> Result<Post, OutOfMemory> {
+    let mut list = ComplaintList::new(alloc);
+    for (instance, against) in items {
+        list.push(Complaint {
+            instance: *instance,
+            against: *against,
+            u: Fe::ONE,
+            v: Fe::ZERO,
+        })?;
+    }
+    Ok(Post::Complaints { list })
+}
+
+// Reveals by lane, receiver and number of coefficients of the row; columns have two.
+fn reveals(alloc: Global, items: &[(u32, u32, u32)]) -> Result<Post, OutOfMemory> {
+    let mut list = RevealList::new(alloc);
+    for (lane, receiver, count) in items {
+        list.push(Reveal {
+            lane: *lane,
+            receiver: *receiver,
+            row: elements(alloc, *count)?,
+            column: elements(alloc, 2)?,
+        })?;
+    }
+    Ok(Post::Reveals { list })
+}
+
+fn is_quiet(post: &Post) -> bool {
+    matches!(post, Post::Quiet)
+}
+
+#[test]
+fn posts_of_a_wrong_shape_are_read_as_quiet(rt: HostRuntime) -> Result<(), OutOfMemory> {
+    let alloc = rt.alloc();
+    let create = Setting::create(4, 1);
+    let moving = Setting::moving(4, 1, 7, 2);
+    let cases = [
+        (votes(alloc, 20)?, 5, 1, create, true),
+        (votes(alloc, 19)?, 5, 1, create, false),
+        (votes(alloc, 20)?, 4, 1, create, false),
+        (votes(alloc, 20)?, 5, 4, moving, false),
+        (votes(alloc, 20)?, 5, 11, moving, true),
+        (complaints(alloc, &[])?, 3, 2, create, true),
+        (
+            complaints(alloc, &[(0, 1), (0, 4), (19, 1)])?,
+            3,
+            2,
+            create,
+            true,
+        ),
+        (complaints(alloc, &[(3, 2), (3, 2)])?, 3, 2, create, false),
+        (complaints(alloc, &[(3, 2), (2, 3)])?, 3, 2, create, false),
+        (complaints(alloc, &[(20, 1)])?, 3, 2, create, false),
+        (complaints(alloc, &[(0, 0)])?, 3, 2, create, false),
+        (complaints(alloc, &[(0, 5)])?, 3, 2, create, false),
+        (reveals(alloc, &[(0, 4, 2), (4, 1, 2)])?, 4, 3, create, true),
+        (reveals(alloc, &[(5, 1, 2)])?, 4, 3, create, false),
+        (reveals(alloc, &[(1, 1, 3)])?, 4, 3, create, false),
+        (reveals(alloc, &[(1, 1, 2)])?, 4, 5, moving, false),
+        (
+            Post::Syndromes {
+                list: elements(alloc, 10)?,
+            },
+            6,
+            5,
+            moving,
+            true,
+        ),
+        (
+            Post::Syndromes {
+                list: elements(alloc, 11)?,
+            },
+            6,
+            5,
+            moving,
+            false,
+        ),
+        (Post::Quiet, 1, 1, create, true),
+    ];
+    for (k, (post, round, seat, setting, right)) in cases.iter().enumerate() {
+        assert_eq!(rt; shape_ok(post, *round, *seat, setting), *right, "post {k}");
+    }
+    let long = as_read(votes(alloc, 20)?, 5, 1, &create);
+    let short = as_read(votes(alloc, 19)?, 5, 1, &create);
+    assert!(rt; !is_quiet(&long));
+    assert!(rt; is_quiet(&short));
+    Ok(())
+}
+
+#[test]
+fn ring_messages_of_a_wrong_shape_are_read_as_nothing(rt: HostRuntime) -> Result<(), OutOfMemory> {
+    let alloc = rt.alloc();
+    let create = Setting::create(4, 1);
+    let refresh = Setting::refresh(4, 1);
+    let moving = Setting::moving(4, 1, 7, 2);
+    let cases = [
+        (true, 20, 1, 1, 2, create, true),
+        (true, 19, 1, 1, 2, create, false),
+        (true, 20, 2, 1, 2, create, false),
+        (true, 20, 1, 2, 2, create, false),
+        (true, 10, 1, 1, 2, refresh, true),
+        (true, 30, 1, 4, 5, moving, true),
+        (true, 30, 1, 5, 6, moving, false),
+        (true, 30, 1, 1, 2, moving, false),
+        (false, 40, 2, 1, 2, create, true),
+        (false, 40, 2, 5, 11, moving, true),
+        (false, 40, 2, 4, 5, moving, false),
+        (false, 41, 2, 1, 2, create, false),
+        (false, 40, 1, 1, 2, create, false),
+    ];
+    for (k, (dealt, count, round, sender, to, setting, right)) in cases.iter().enumerate() {
+        let list = elements(alloc, *count)?;
+        let item = if *dealt {
+            Ring::Dealt { list }
+        } else {
+            Ring::Cross { list }
+        };
+        assert_eq!(rt;
+            ring_ok(&item, *round, *sender, *to, setting),
+            *right,
+            "ring message {k}"
+        );
+        let read = ring_as_read(item.copy(alloc)?, *round, *sender, *to, setting);
+        assert_eq!(rt; matches!(read, Ring::Nothing), !*right, "ring message {k}");
+    }
+    Ok(())
+}
+
+#[test]
+fn settings_have_the_numbers_of_their_phase(rt: HostRuntime) {
+    let settings = [
+        (Setting::create(4, 1), 4, 5, 20, 1),
+        (Setting::refresh(13, 4), 13, 5, 65, 3),
+        (Setting::moving(7, 2, 13, 4), 20, 6, 35, 4),
+        (Setting::moving(15, 4, 15, 4), 30, 6, 75, 4),
+    ];
+    for (k, (setting, seats, rounds, instances, degree)) in settings.iter().enumerate() {
+        assert_eq!(rt; setting.seats(), *seats, "setting {k}");
+        assert_eq!(rt; setting.rounds(), *rounds, "setting {k}");
+        assert_eq!(rt; setting.instances(), *instances, "setting {k}");
+        assert_eq!(rt; setting.degree(), *degree, "setting {k}");
+    }
+}
+
+// A member of four that posts no complaints in every round, passes in one round, speaks late in another,
+// and keeps the posts that it hears in the third.
+#[derive(Drop)]
+struct Plain {
+    passes: u32,
+    late: u32,
+    third: PostList,
+}
+
+impl Mind for Plain {
+    ghost made_for = { λ p s seat. seats s ≡ 4 };
+
+    ghost may_say = { λ p round. Unit {0} };
+
+    ghost may_hear = { λ p round. Unit {0} };
+
+    ghost word = { λ p round. cond (eqb round p.passes) Pass (cond (eqb round p.late) (PassThenSpeak (Complaints []) (Nothing ∷ Nothing ∷ Nothing ∷ Nothing ∷ [])) (Speak (Complaints []) (Nothing ∷ Nothing ∷ Nothing ∷ Nothing ∷ []))) };
+
+    ghost after_say = { λ p round. p };
+
+    ghost after_hear = { λ p round h. cond (eqb round 3) (record p { third = h.posts }) p };
+
+    ghost say_keeps = { λ p round may s seat. (λ m. m, λ m. m) };
+
+    ghost hear_keeps = { λ p round h may s seat. (λ m. m, λ m. m) };
+
+    ghost hears_next = { λ p round may. tt };
+
+    ghost says_next = { λ p round h s seat may made less. tt };
+
+    fn say(&mut self, alloc: Global, round: u32) -> Result<Say, OutOfMemory> {
+        if round == self.passes {
+            return Ok(Say::Pass);
+        }
+        let post = Post::Complaints {
+            list: ComplaintList::new(alloc),
+        };
+        let mut rings = RingList::new(alloc);
+        rings.push(Ring::Nothing)?;
+        rings.push(Ring::Nothing)?;
+        rings.push(Ring::Nothing)?;
+        rings.push(Ring::Nothing)?;
+        if round == self.late {
+            return Ok(Say::PassThenSpeak { post, rings });
+        }
+        Ok(Say::Speak { post, rings })
+    }
+
+    fn hear(&mut self, _alloc: Global, round: u32, heard: Heard) -> Result<(), OutOfMemory> {
+        if round == 3 {
+            self.third = heard.posts;
+        }
+        Ok(())
+    }
+}
+
+fn make_plain(alloc: Global, passes: u32, late: u32) -> Plain {
+    Plain {
+        passes,
+        late,
+        third: PostList::new(alloc),
+    }
+}
+
+#[test]
+fn a_seat_that_passes_or_is_late_is_out_from_then_on(rt: HostRuntime) -> Result<(), OutOfMemory> {
+    let alloc = rt.alloc();
+    let mut minds = Vec::new(alloc);
+    minds.push(make_plain(alloc, 0, 0))?;
+    minds.push(make_plain(alloc, 2, 0))?;
+    minds.push(make_plain(alloc, 0, 0))?;
+    minds.push(make_plain(alloc, 0, 4))?;
+    let driven = drive(alloc, minds, &Setting::create(4, 1))?;
+    assert!(rt; driven.masks.as_slice() == [15, 13, 13, 5, 5].as_slice());
+    for mind in driven.minds.iter() {
+        let heard = mind.third.as_slice();
+        assert_eq!(rt; heard.len(), 4);
+        for (k, post) in heard.iter().enumerate() {
+            assert_eq!(rt; is_quiet(post), k == 1, "seat {}", k + 1);
+        }
+    }
+    Ok(())
+}
