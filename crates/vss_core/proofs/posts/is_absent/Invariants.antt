@@ -1,0 +1,6 @@
+use Rattle.std.proofs.Common.{◌≡◌, drop}
+use Rattle.plays.specs.Read.{reveal_at}
+use Rattle.vss_core.proofs.posts.is_absent.Given as goal
+
+abbrev pub invariant-loop-reveal : goal.invariant-loop-reveal
+invariant-loop-reveal l = reveal_at l.lane l.j (drop l.reveal-index l.reveal-items) ≡ reveal_at l.lane l.j l.list

@@ -1,0 +1,127 @@
+-- What one seat's states hold, as contracts see them. Lists of pairs, votes and answers are by instance.
+use Rattle.std.specs.Prelude.{◌≡◌, ℕ, ◌+◌, ◌*◌, ◌≤◌, List, [], Bool, length, cond, eqb, ◌-◌, Option, Some, None, refl, All}
+use Rattle.std.specs.Coded.{Coded, code_by, coded×, coded_list, coded_ℕ}
+use Rattle.std.proofs.Common.{Bor}
+use Rattle.algebra61.specs.Field.{Fp, fp_code}
+use Rattle.bivar61.specs.Grids.{IsGrid}
+use Rattle.sharing61.specs.Rules.{Pair, Two}
+use Rattle.talk.specs.declared.messages.Complaint.{Complaint}
+use Rattle.talk.specs.declared.messages.Reveal.{Reveal}
+use Rattle.talk.specs.declared.messages.Post.{Post}
+use Rattle.talk.specs.declared.messages.Ring.{Ring}
+use Rattle.talk.specs.declared.messages.Ring.TheVariants.{Nothing, Dealt, Cross}
+use Rattle.talk.specs.Shape.{Shape, shape_code, seats}
+use Rattle.talk.specs.Hears.{RingsOk, PostsOk}
+use Rattle.plays.specs.Play.{seat_of}
+use Rattle.plays.specs.Read.{crossed_in}
+use Rattle.plays.specs.Said.{points_up_to, reveal_item}
+use Rattle.plays.specs.Seat.{ring_at, heard_complaint}
+use Rattle.sharing61.specs.Rules.{at_point, reveal_of}
+use Rattle.std.specs.List.{flat_map}
+
+-- a dealer: its setting, its index, and its grids, lane by lane
+pub record DealerState : Type 0 where
+  pub shape : Shape
+  pub me : ℕ
+  pub grids : List (List (List Fp))
+
+-- a receiver before the first round
+pub record ReadyState : Type 0 where
+  pub shape : Shape
+  pub me : ℕ
+
+-- after the first round, with the pairs that it holds
+pub record DealtState : Type 0 where
+  pub shape : Shape
+  pub me : ℕ
+  pub pairs : List Pair
+
+-- after the second round, with the complaints that it is to post
+pub record CrossedState : Type 0 where
+  pub shape : Shape
+  pub me : ℕ
+  pub pairs : List Pair
+  pub complaints : List Complaint
+
+-- after the third round, with that round's posts, by seat
+pub record ComplainedState : Type 0 where
+  pub shape : Shape
+  pub me : ℕ
+  pub pairs : List Pair
+  pub third : List Post
+
+-- after the fourth round, with that round's posts, by seat, and the votes that it is to post
+pub record RevealedState : Type 0 where
+  pub shape : Shape
+  pub me : ℕ
+  pub pairs : List Pair
+  pub fourth : List Post
+  pub votes : List Bool
+
+-- after the fifth round: the pairs that it has in the end, and which instances are accepted
+pub record DoneState : Type 0 where
+  pub shape : Shape
+  pub me : ℕ
+  pub kept : List Pair
+  pub accepted : List Bool
+
+-- a dealer is stored as the tuple of what it holds
+abbrev pub dealer_code : Coded DealerState
+dealer_code =
+    code_by _ (coded× shape_code (coded× coded_ℕ (coded_list (coded_list (coded_list fp_code)))))
+    (λ s. (s.shape, (s.me, s.grids)))
+    (λ p. record { shape = p.0; me = p.1.0; grids = p.1.1 })
+    (λ _. refl)
+
+-- me is one of the setting's dealers, or of its receivers
+abbrev pub IsDealer : Shape → ℕ → Type 0
+IsDealer s me = (1 ≤ me) × (me ≤ s.dealers)
+
+abbrev pub IsReceiver : Shape → ℕ → Type 0
+IsReceiver s me = (1 ≤ me) × (me ≤ s.receivers)
+
+-- one grid for each of the five lanes, all of degree d
+pub record FiveGrids (d : ℕ) (grids : List (List (List Fp))) : Type 0 where
+  pub five : length grids ≡ 5
+  pub degree : All (IsGrid d) grids
+
+-- the posts of a round: one entry for each seat, as read
+pub record RoundPosts (s : Shape) (round : ℕ) (posts : List Post) : Type 0 where
+  pub all : length posts ≡ seats s
+  pub read : PostsOk s round 1 posts
+
+-- the ring messages of a round to receiver me: one entry for each seat, as read
+pub record RoundRings (s : Shape) (round me : ℕ) (rings : List Ring) : Type 0 where
+  pub all : length rings ≡ seats s
+  pub read : RingsOk s round (seat_of s me) 1 rings
+
+-- the grids of a receiver's own dealer, none where it has none
+abbrev pub own_grids : Option (Bor DealerState) → List (List (List Fp))
+own_grids None = []
+own_grids (Some d) = d.now.grids
+
+-- a row's value and a column's, as a record
+abbrev pub two_or : Option (Fp × Fp) → Option Two
+two_or None = None
+two_or (Some p) = Some (record { u = p.0; v = p.1 })
+
+-- a dealer's message of degree d has the coefficients of five rows and columns
+abbrev pub DealtLong : ℕ → Ring → Type 0
+DealtLong d Nothing = Unit {0}
+DealtLong d (Dealt xs) = length xs ≡ 10 * (d + 1)
+DealtLong d (Cross xs) = Unit {0}
+
+-- a message of the second round has two elements for each instance
+abbrev pub CrossLong : ℕ → Ring → Type 0
+CrossLong m Nothing = Unit {0}
+CrossLong m (Dealt xs) = Unit {0}
+CrossLong m (Cross xs) = length xs ≡ 2 * m
+
+-- the crossing pair that me heard of k in instance i, of which it holds the pair; its own for k = me
+abbrev pub cross_of : Shape → ℕ → Pair → List Ring → ℕ → ℕ → Option Two
+cross_of s me pair rings i k = cond (eqb k me) (Some (at_point pair me)) (crossed_in i (ring_at rings (seat_of s k)))
+
+-- the reveals of dealer me in a lane of which it has the grid, for the receivers 1 to n
+abbrev pub lane_items : Shape → ℕ → List (List Fp) → List Post → ℕ → ℕ → List Reveal
+lane_items s me grid third lane n =
+    flat_map (λ j. reveal_item s.degree lane j (reveal_of s.receivers grid (heard_complaint s third ((me - 1) * 5 + lane) j) j)) (points_up_to n)

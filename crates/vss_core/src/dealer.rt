@@ -1,0 +1,234 @@
+//! A dealer.
+
+ghost use Rattle.std.specs.Prelude.{◌≡◌, ℕ, ◌+◌, ◌-◌, ◌*◌, ◌<◌, ◌≤◌, List, [], ◌++◌, length, IfOk, get_or, Bool, Option};
+ghost use Rattle.algebra61.specs.Field.{Fp};
+ghost use Rattle.sharing61.specs.Count.{anyone};
+ghost use Rattle.sharing61.specs.Rules.{Pair, Two, pair_on, two_on, off_grid, reveal_of};
+ghost use Rattle.talk.specs.Shape.{Shape, seats, instances};
+ghost use Rattle.plays.specs.Said.{dealt_list, pair_list, reveal_item, reveal_list};
+ghost use Rattle.plays.specs.Seat.{heard_complaint, reveals};
+ghost use Rattle.vss_core.specs.States.{DealerState, IsDealer, IsReceiver, FiveGrids, RoundPosts, two_or, lane_items};
+
+use crate::PolyPair;
+use crate::pairs::{padded, push_padded};
+use crate::posts::complaint_in;
+use bivar61::{Grid, GridList};
+use field61::{Fe, FeList, OutOfMemory};
+use std::alloc::Global;
+use std::marker::Model;
+use talk::{PostList, Reveal, RevealList, Setting};
+
+/// A dealer: one grid for each of the five lanes. Contracts see its setting, its index and its grids.
+#[derive(Drop)]
+pub struct Dealer {
+    setting: Setting,
+    me: u32,
+    grids: GridList,
+}
+
+impl Model for Dealer {
+    ghost use Rattle.vss_core.specs.States.{DealerState, dealer_code, IsDealer, FiveGrids};
+
+    ghost Value = { DealerState };
+
+    ghost coded = { dealer_code };
+
+    ghost view = { λ d. record { shape = d.setting; me = d.me; grids = d.grids } };
+
+    ghost invariant = { λ d. IsDealer d.setting d.me × FiveGrids d.setting.degree d.grids };
+}
+
+impl Dealer {
+    /// The dealer `me` with these grids, lane by lane, all of the setting's degree.
+    pub fn new(setting: Setting, me: u32, grids: GridList) -> Dealer
+        requires dealer { IsDealer setting me }
+        requires grids { FiveGrids setting.degree grids }
+        ensures { result ≡ record { shape = setting; me = me; grids = grids } }
+    {
+        Dealer { setting, me, grids }
+    }
+
+    /// The setting of its phase.
+    pub fn setting(&self) -> &Setting
+        ensures { result.now ≡ self.now.shape }
+    {
+        &self.setting
+    }
+
+    /// What goes to a receiver in the first round: lane by lane the coefficients of its row and of its column.
+    pub fn deal_for(&self, alloc: Global, receiver: u32) -> Result<FeList, OutOfMemory>
+        requires { IsReceiver self.now.shape receiver }
+        ensures { IfOk result (λ l. l ≡ dealt_list self.now.shape.degree (λ k. pair_on (get_or self.now.grids k []) receiver)) }
+    {
+        dealt_to(alloc, &self.grids, self.setting.degree() as usize, receiver)
+    }
+
+    /// What it posts in the fourth round, from the posts of the third: the pair of each receiver that told, in a
+    /// complaint, values other than its grid's.
+    pub fn reveals(&self, alloc: Global, posts: &PostList) -> Result<RevealList, OutOfMemory>
+        requires { RoundPosts self.now.shape 3 posts.now }
+        ensures { IfOk result (λ l. l ≡ reveal_list self.now.shape.degree self.now.shape.receivers (reveals self.now.shape self.now.grids posts.now self.now.me)) }
+    {
+        all_reveals(alloc, &self.setting, self.me, &self.grids, posts)
+    }
+
+    /// The pair of a receiver in a lane.
+    pub fn pair_for(&self, alloc: Global, lane: u32, receiver: u32) -> Result<PolyPair, OutOfMemory>
+        requires { lane < 5 }
+        ensures { IfOk result (λ p. p ≡ pair_on (get_or self.now.grids lane []) receiver) }
+    {
+        PolyPair::on_grid(alloc, self.grids.at(lane as usize), receiver)
+    }
+}
+
+// What goes to a receiver, of the degree d.
+fn dealt_to(alloc: Global, grids: &GridList, d: usize, receiver: u32) -> Result<FeList, OutOfMemory>
+    requires five { length grids.now ≡ 5 }
+    requires degree { d ≤ 4 }
+    ensures { IfOk result (λ l. l ≡ dealt_list d (λ k. pair_on (get_or grids.now k []) receiver)) }
+{
+    let mut list = FeList::new(alloc);
+    for lane in 0..5 {
+        push_pair(alloc, &mut list, grids.at(lane), d, receiver)?;
+    }
+    Ok(list)
+}
+
+// The coefficients of a receiver's row and column of a grid of degree d, at the end of the list.
+fn push_pair(
+    alloc: Global,
+    list: &mut FeList,
+    grid: &Grid,
+    d: usize,
+    receiver: u32,
+) -> Result<(), OutOfMemory>
+    requires { d ≤ 4 }
+    ensures { IfOk result (λ _. list.new ≡ list.old ++ pair_list d (pair_on grid.now receiver)) }
+{
+    let pair = PolyPair::on_grid(alloc, grid, receiver)?;
+    push_padded(list, pair.row(), d + 1)?;
+    push_padded(list, pair.column(), d + 1)
+}
+
+// The reveals of all lanes.
+fn all_reveals(
+    alloc: Global,
+    s: &Setting,
+    me: u32,
+    grids: &GridList,
+    posts: &PostList,
+) -> Result<RevealList, OutOfMemory>
+    requires dealer { IsDealer s.now me }
+    requires five { length grids.now ≡ 5 }
+    requires all { length posts.now ≡ seats s.now }
+    ensures { IfOk result (λ l. l ≡ reveal_list s.now.degree s.now.receivers (reveals s.now grids.now posts.now me)) }
+{
+    let mut list = RevealList::new(alloc);
+    for lane in 0..5 {
+        lane_reveals(
+            alloc,
+            s,
+            me,
+            grids.at(lane as usize),
+            posts,
+            lane,
+            &mut list,
+        )?;
+    }
+    Ok(list)
+}
+
+// The reveals of a lane, at the end of the list.
+fn lane_reveals(
+    alloc: Global,
+    s: &Setting,
+    me: u32,
+    grid: &Grid,
+    posts: &PostList,
+    lane: u32,
+    list: &mut RevealList,
+) -> Result<(), OutOfMemory>
+    requires dealer { IsDealer s.now me }
+    requires lane { lane < 5 }
+    requires all { length posts.now ≡ seats s.now }
+    ensures { IfOk result (λ _. list.new ≡ list.old ++ lane_items s.now me grid.now posts.now lane s.now.receivers) }
+{
+    for j in 1..s.receivers() + 1 {
+        reveal_one(alloc, s, me, grid, posts, lane, j, list)?;
+    }
+    Ok(())
+}
+
+// The reveal of receiver j in a lane, where it is to be revealed, at the end of the list.
+fn reveal_one(
+    alloc: Global,
+    s: &Setting,
+    me: u32,
+    grid: &Grid,
+    posts: &PostList,
+    lane: u32,
+    j: u32,
+    list: &mut RevealList,
+) -> Result<(), OutOfMemory>
+    requires dealer { IsDealer s.now me }
+    requires lane { lane < 5 }
+    requires receiver { IsReceiver s.now j }
+    requires all { length posts.now ≡ seats s.now }
+    ensures { IfOk result (λ _. list.new ≡ list.old ++ reveal_item s.now.degree lane j (reveal_of s.now.receivers grid.now (heard_complaint s.now posts.now ((me - 1) * 5 + lane) j) j)) }
+{
+    let dealers = s.dealers();
+    prove!(me <= dealers);
+    if tells_off(s, grid, posts, (me - 1) * 5 + lane, j) {
+        return push_reveal(alloc, list, grid, s.degree() as usize, lane, j);
+    }
+    Ok(())
+}
+
+// The pair of receiver j on a grid of degree d, at the end of the list.
+fn push_reveal(
+    alloc: Global,
+    list: &mut RevealList,
+    grid: &Grid,
+    d: usize,
+    lane: u32,
+    j: u32,
+) -> Result<(), OutOfMemory>
+    requires { d ≤ 4 }
+    ensures { IfOk result (λ _. list.new ≡ list.old ++ reveal_item d lane j (Option.Some (pair_on grid.now j))) }
+{
+    let pair = PolyPair::on_grid(alloc, grid, j)?;
+    list.push(Reveal {
+        lane,
+        receiver: j,
+        row: padded(alloc, pair.row(), d + 1)?,
+        column: padded(alloc, pair.column(), d + 1)?,
+    })
+}
+
+// Whether some complaint of receiver j in instance i tells values other than the grid's.
+fn tells_off(s: &Setting, grid: &Grid, posts: &PostList, i: u32, j: u32) -> bool
+    requires receiver { IsReceiver s.now j }
+    requires all { length posts.now ≡ seats s.now }
+    ensures { result ≡ anyone s.now.receivers (λ k. off_grid grid.now j k (heard_complaint s.now posts.now i j k)) }
+{
+    let post = posts.at((s.seat_of(j) - 1) as usize);
+    let mut off = false;
+    for k in 1..s.receivers() + 1 {
+        off = off || is_off(grid, j, k, complaint_in(post, i, k));
+    }
+    off
+}
+
+// Whether a complaint of j against k tells values other than the grid's.
+fn is_off(grid: &Grid, j: u32, k: u32, told: Option<(Fe, Fe)>) -> bool
+    ensures { result ≡ off_grid grid.now j k (two_or told) }
+{
+    match told {
+        None => false,
+        Some((u, v)) => {
+            let x = Fe::reduce(u64::from(j));
+            let y = Fe::reduce(u64::from(k));
+            u != grid.at(y, x) || v != grid.at(x, y)
+        }
+    }
+}

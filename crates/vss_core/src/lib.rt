@@ -1,0 +1,32 @@
+//! One seat's part in verifiable secret sharing, as states: each step takes what the seat heard in a round, and gives
+//! what it keeps and what it says next. No state holds two members' data.
+//!
+//! A [`Dealer`] has grids, deals from them and reveals. A receiver goes from [`Ready`] through [`Dealt`], [`Crossed`],
+//! [`Complained`] and [`Revealed`] to [`Done`]. Each step takes the old state by value; where memory is wanting, the
+//! old state comes back in [`Kept`]. What the steps bring about for all receivers stands in [`laws`].
+#![tactic(auto)]
+
+mod complained;
+mod crossed;
+mod dealer;
+mod dealt;
+mod done;
+mod kept;
+pub mod laws;
+mod pairs;
+mod posts;
+mod ready;
+mod revealed;
+#[cfg(test)]
+mod tests;
+mod votes;
+
+pub use complained::Complained;
+pub use crossed::Crossed;
+pub use dealer::Dealer;
+pub use dealt::Dealt;
+pub use done::Done;
+pub use kept::Kept;
+pub use pairs::{PairList, PolyPair};
+pub use ready::Ready;
+pub use revealed::Revealed;

@@ -1,0 +1,117 @@
+//! A receiver before the first round.
+
+ghost use Rattle.std.specs.Prelude.{◌≡◌, ℕ, ◌+◌, ◌-◌, ◌*◌, ◌<◌, ◌≤◌, List, [], length, map, IfOk, MatchResult, get_or};
+ghost use Rattle.sharing61.specs.Rules.{pair_on};
+ghost use Rattle.talk.specs.Shape.{Shape, seats, instances};
+ghost use Rattle.plays.specs.Said.{places};
+ghost use Rattle.plays.specs.Seat.{holds};
+ghost use Rattle.vss_core.specs.States.{ReadyState, DealtState, IsReceiver, RoundRings, own_grids};
+
+use crate::pairs::dealt_pair;
+use crate::{Dealer, Dealt, Kept, PairList, PolyPair};
+use field61::OutOfMemory;
+use std::alloc::Global;
+use std::marker::Model;
+use talk::{RingList, Setting};
+
+/// A receiver before the first round. Contracts see its setting and its index.
+#[derive(Drop)]
+pub struct Ready {
+    setting: Setting,
+    me: u32,
+}
+
+impl Model for Ready {
+    ghost use Rattle.vss_core.specs.States.{ReadyState, IsReceiver};
+
+    ghost Value = { ReadyState };
+
+    ghost view = { λ d. record { shape = d.setting; me = d.me } };
+
+    ghost invariant = { λ d. IsReceiver d.setting d.me };
+}
+
+impl Ready {
+    /// The receiver `me`.
+    pub fn new(setting: Setting, me: u32) -> Ready
+        requires { IsReceiver setting me }
+        ensures { result ≡ record { shape = setting; me = me } }
+    {
+        Ready { setting, me }
+    }
+
+    /// Hears the first round: it holds, in each instance, the pair that the dealer sent, or that of its own dealer, and
+    /// two zero polynomials where nothing was sent. `own` is the dealer on its own seat, where it has one.
+    pub fn hear_deals(
+        self,
+        alloc: Global,
+        rings: &RingList,
+        own: Option<&Dealer>,
+    ) -> Result<Dealt, Kept<Ready>>
+        requires { RoundRings self.shape 1 self.me rings.now }
+        ensures { MatchResult result (λ d. d ≡ record { shape = self.shape; me = self.me; pairs = map (holds self.shape self.me (own_grids own.entry) rings.now) (places (instances self.shape)) }) (λ k. k.state ≡ self) }
+    {
+        match held_pairs(alloc, &self.setting, self.me, rings, own) {
+            Ok(pairs) => Ok(Dealt::made(self.setting, self.me, pairs)),
+            Err(_) => Err(Kept { state: self }),
+        }
+    }
+}
+
+// The pairs of all instances.
+fn held_pairs(
+    alloc: Global,
+    s: &Setting,
+    me: u32,
+    rings: &RingList,
+    own: Option<&Dealer>,
+) -> Result<PairList, OutOfMemory>
+    requires receiver { IsReceiver s.now me }
+    requires rings { RoundRings s.now 1 me rings.now }
+    ensures { IfOk result (λ l. l ≡ map (holds s.now me (own_grids own.entry) rings.now) (places (instances s.now))) }
+{
+    let mut pairs = PairList::new(alloc);
+    for i in 0..s.instances() {
+        pairs.push(held_pair(alloc, s, me, rings, own, i)?)?;
+    }
+    Ok(pairs)
+}
+
+// The pair of instance i.
+fn held_pair(
+    alloc: Global,
+    s: &Setting,
+    me: u32,
+    rings: &RingList,
+    own: Option<&Dealer>,
+    i: u32,
+) -> Result<PolyPair, OutOfMemory>
+    requires receiver { IsReceiver s.now me }
+    requires rings { RoundRings s.now 1 me rings.now }
+    requires instance { i < instances s.now }
+    ensures { IfOk result (λ p. p ≡ holds s.now me (own_grids own.entry) rings.now i) }
+{
+    let dealers = s.dealers();
+    prove!(i / 5 < dealers);
+    if i / 5 + 1 == s.seat_of(me) {
+        return own_pair(alloc, own, i % 5, me);
+    }
+    let ring = rings.at((i / 5) as usize);
+    dealt_pair(alloc, ring, s.degree() as usize, (i % 5) as usize)
+}
+
+// The own pair in a lane.
+fn own_pair(
+    alloc: Global,
+    own: Option<&Dealer>,
+    lane: u32,
+    me: u32,
+) -> Result<PolyPair, OutOfMemory>
+    requires { lane < 5 }
+    ensures { IfOk result (λ p. p ≡ pair_on (get_or (own_grids own.entry) lane []) me) }
+{
+    match own {
+        Some(dealer) => dealer.pair_for(alloc, lane, me),
+        None => PolyPair::zero(alloc),
+    }
+}

@@ -1,0 +1,250 @@
+//! Tests of the steps: worked examples with committees of four, bound 1.
+
+ghost use Rattle.std.specs.Prelude.{◌≡◌, ℕ, ◌≤◌, List, IfOk, length};
+ghost use Rattle.talk.specs.Shape.{seats, instances};
+ghost use Rattle.vss_core.specs.States.{DealtState, CrossedState, DoneState, IsReceiver, RoundPosts, RoundRings};
+
+use super::*;
+use bivar61::{Grid, GridList};
+use field61::{Fe, FeList, OutOfMemory, P};
+use std::alloc::Global;
+use talk::{
+    Complaint, ComplaintList, Post, PostList, Reveal, RevealList, Ring, RingList, Setting,
+    VoteList, as_read, ring_as_read,
+};
+
+fn elements(alloc: Global, numbers: &[u64]) -> Result<FeList, OutOfMemory> {
+    let mut list = FeList::new(alloc);
+    for number in numbers {
+        list.push(Fe::reduce(*number))?;
+    }
+    Ok(list)
+}
+
+// The posts of the four seats in a round, as read.
+#[tactic(auto, using(talk::proofs::Fit::read_ok))]
+fn four_posts(
+    alloc: Global,
+    s: &Setting,
+    round: u32,
+    posts: (Post, Post, Post, Post),
+) -> Result<PostList, OutOfMemory>
+    requires { seats s.now ≡ 4 }
+    ensures { IfOk result (λ l. RoundPosts s.now round l) }
+{
+    let mut list = PostList::new(alloc);
+    list.push(as_read(posts.0, round, 1, s))?;
+    list.push(as_read(posts.1, round, 2, s))?;
+    list.push(as_read(posts.2, round, 3, s))?;
+    list.push(as_read(posts.3, round, 4, s))?;
+    Ok(list)
+}
+
+// The ring messages of the four seats to receiver `me` in a round, as read.
+#[tactic(auto, using(talk::proofs::Fit::ring_read_ok))]
+fn four_rings(
+    alloc: Global,
+    s: &Setting,
+    round: u32,
+    me: u32,
+    items: (Ring, Ring, Ring, Ring),
+) -> Result<RingList, OutOfMemory>
+    requires four { seats s.now ≡ 4 }
+    requires receiver { IsReceiver s.now me }
+    ensures { IfOk result (λ l. RoundRings s.now round me l) }
+{
+    let to = s.seat_of(me);
+    let mut list = RingList::new(alloc);
+    list.push(ring_as_read(items.0, round, 1, to, s))?;
+    list.push(ring_as_read(items.1, round, 2, to, s))?;
+    list.push(ring_as_read(items.2, round, 3, to, s))?;
+    list.push(ring_as_read(items.3, round, 4, to, s))?;
+    Ok(list)
+}
+
+// A receiver to whom dealer 4 deals a row and a column of degree 1 in lane 0, zeros in the others, and nobody else
+// deals anything.
+fn deal_to(alloc: Global, s: &Setting, me: u32, pair: [u64; 4]) -> Result<Dealt, OutOfMemory>
+    requires four { seats s.now ≡ 4 }
+    requires receiver { IsReceiver s.now me }
+    ensures same { IfOk result (λ d. (d.shape ≡ s.now) × (d.me ≡ me)) }
+    ensures receivers { IfOk result (λ d. d.shape.receivers ≡ s.now.receivers) }
+{
+    let mut list = elements(alloc, &pair)?;
+    for _ in 0..16 {
+        list.push(Fe::ZERO)?;
+    }
+    let items = (
+        Ring::Nothing,
+        Ring::Nothing,
+        Ring::Nothing,
+        Ring::Dealt { list },
+    );
+    let rings = four_rings(alloc, s, 1, me, items)?;
+    let Ok(dealt) = Ready::new(*s, me).hear_deals(alloc, &rings, None) else {
+        return Err(OutOfMemory);
+    };
+    Ok(dealt)
+}
+
+// The message of the second round from one receiver to another.
+fn cross(alloc: Global, from: &Dealt, to: u32) -> Result<Ring, OutOfMemory>
+    requires { IsReceiver from.now.shape to }
+{
+    Ok(Ring::Cross {
+        list: from.cross_for(alloc, to)?,
+    })
+}
+
+// The receiver after the second round.
+fn hear_second(
+    alloc: Global,
+    s: &Setting,
+    me: u32,
+    dealt: Dealt,
+    items: (Ring, Ring, Ring, Ring),
+) -> Result<Crossed, OutOfMemory>
+    requires four { seats s.now ≡ 4 }
+    requires receiver { IsReceiver s.now me }
+    requires same { (dealt.shape ≡ s.now) × (dealt.me ≡ me) }
+    ensures { IfOk result (λ d. d.shape ≡ s.now) }
+{
+    let rings = four_rings(alloc, s, 2, me, items)?;
+    let Ok(crossed) = dealt.hear_crosses(alloc, &rings) else {
+        return Err(OutOfMemory);
+    };
+    Ok(crossed)
+}
+
+// The receiver after the fourth round.
+fn hear_fourth(
+    alloc: Global,
+    s: &Setting,
+    crossed: Crossed,
+    third: &PostList,
+    fourth: &PostList,
+) -> Result<Revealed, OutOfMemory>
+    requires same { crossed.shape ≡ s.now }
+    requires third { RoundPosts s.now 3 third.now }
+    requires fourth { RoundPosts s.now 4 fourth.now }
+    ensures { IfOk result (λ d. d.shape ≡ s.now) }
+{
+    let Ok(complained) = crossed.hear_complaints(alloc, third) else {
+        return Err(OutOfMemory);
+    };
+    let Ok(revealed) = complained.hear_reveals(alloc, fourth) else {
+        return Err(OutOfMemory);
+    };
+    Ok(revealed)
+}
+
+// The receiver after the votes.
+fn hear_fifth(
+    alloc: Global,
+    s: &Setting,
+    revealed: Revealed,
+    fifth: &PostList,
+) -> Result<Done, OutOfMemory>
+    requires same { revealed.shape ≡ s.now }
+    requires fifth { RoundPosts s.now 5 fifth.now }
+    ensures { IfOk result (λ d. instances d.shape ≡ instances s.now) }
+{
+    let Ok(done) = revealed.hear_votes(alloc, fifth) else {
+        return Err(OutOfMemory);
+    };
+    Ok(done)
+}
+
+fn complaints(alloc: Global, crossed: &Crossed) -> Result<Post, OutOfMemory> {
+    Ok(Post::Complaints {
+        list: crossed.complaints(alloc)?,
+    })
+}
+
+fn votes(alloc: Global, revealed: &Revealed) -> Result<Post, OutOfMemory> {
+    Ok(Post::Votes {
+        list: revealed.votes(alloc)?,
+    })
+}
+
+// Dealer 4 deals pairs whose values agree wherever two receivers meet, and which lie on no grid of degree 1: each
+// receiver's row and column differ at its own point. Each complains of itself, so the instance is not accepted.
+#[test]
+fn pairs_that_only_differ_from_themselves_are_not_accepted(
+    rt: HostRuntime,
+) -> Result<(), OutOfMemory> {
+    let alloc = rt.alloc();
+    let s = Setting::create(4, 1);
+    let one = deal_to(alloc, &s, 1, [0, 0, P - 4, 2])?;
+    let two = deal_to(alloc, &s, 2, [0, 0, P - 1, 1])?;
+    let three = deal_to(alloc, &s, 3, [2, 0, 0, 0])?;
+    let to_one = (
+        Ring::Nothing,
+        cross(alloc, &two, 1)?,
+        cross(alloc, &three, 1)?,
+        Ring::Nothing,
+    );
+    let to_two = (
+        cross(alloc, &one, 2)?,
+        Ring::Nothing,
+        cross(alloc, &three, 2)?,
+        Ring::Nothing,
+    );
+    let to_three = (
+        cross(alloc, &one, 3)?,
+        cross(alloc, &two, 3)?,
+        Ring::Nothing,
+        Ring::Nothing,
+    );
+    let one = hear_second(alloc, &s, 1, one, to_one)?;
+    let two = hear_second(alloc, &s, 2, two, to_two)?;
+    let three = hear_second(alloc, &s, 3, three, to_three)?;
+    for (me, crossed) in [(1, &one), (2, &two), (3, &three)] {
+        let list = crossed.complaints(alloc)?;
+        let mut of_dealer_four = list.as_slice().iter().filter(|c| c.instance == 15);
+        assert!(rt; of_dealer_four.next().is_some_and(|c| c.against == me));
+        assert!(rt; of_dealer_four.next().is_some_and(|c| c.against == 4));
+        assert!(rt; of_dealer_four.next().is_none());
+    }
+    let third = four_posts(
+        alloc,
+        &s,
+        3,
+        (
+            complaints(alloc, &one)?,
+            complaints(alloc, &two)?,
+            complaints(alloc, &three)?,
+            Post::Quiet,
+        ),
+    )?;
+    let fourth = four_posts(
+        alloc,
+        &s,
+        4,
+        (Post::Quiet, Post::Quiet, Post::Quiet, Post::Quiet),
+    )?;
+    let one = hear_fourth(alloc, &s, one, &third, &fourth)?;
+    let two = hear_fourth(alloc, &s, two, &third, &fourth)?;
+    let three = hear_fourth(alloc, &s, three, &third, &fourth)?;
+    let fifth = four_posts(
+        alloc,
+        &s,
+        5,
+        (
+            votes(alloc, &one)?,
+            votes(alloc, &two)?,
+            votes(alloc, &three)?,
+            Post::Quiet,
+        ),
+    )?;
+    let done = hear_fifth(alloc, &s, three, &fifth)?;
+    for instance in 0..20 {
+        assert_eq!(rt;
+            done.accepted(instance),
+            instance != 15,
+            "instance {instance}"
+        );
+        assert_eq!(rt; done.share(instance).get(), 0, "instance {instance}");
+    }
+    Ok(())
+}

@@ -1,0 +1,154 @@
+//! A receiver's votes.
+
+ghost use Rattle.std.specs.Prelude.{◌≡◌, ℕ, ◌+◌, ◌-◌, ◌<◌, ◌≤◌, Bool, List, [], length, IfOk};
+ghost use Rattle.sharing61.specs.Count.{everyone};
+ghost use Rattle.sharing61.specs.Rules.{Pair, fits, settled, told_same, votes_yes};
+ghost use Rattle.talk.specs.Shape.{Shape, seats, instances, lane_of};
+ghost use Rattle.plays.specs.Read.{shown_in};
+ghost use Rattle.plays.specs.Said.{vote_list};
+ghost use Rattle.plays.specs.Seat.{says_yes, heard_complaint, heard_shown, pair_at};
+ghost use Rattle.vss_core.specs.States.{IsReceiver, two_or};
+
+use crate::posts::{complaint_in, is_hidden, revealed_in};
+use crate::{PairList, PolyPair};
+use field61::{Fe, OutOfMemory};
+use std::alloc::Global;
+use talk::{Post, PostList, Setting, VoteList};
+
+// The votes on all instances.
+pub(crate) fn votes_of(
+    alloc: Global,
+    s: &Setting,
+    me: u32,
+    pairs: &PairList,
+    third: &PostList,
+    fourth: &PostList,
+) -> Result<VoteList, OutOfMemory>
+    requires receiver { IsReceiver s.now me }
+    requires pairs { length pairs.now ≡ instances s.now }
+    requires third { length third.now ≡ seats s.now }
+    requires fourth { length fourth.now ≡ seats s.now }
+    ensures { IfOk result (λ l. l ≡ vote_list (instances s.now) (says_yes s.now me pairs.now third.now fourth.now)) }
+{
+    let mut votes = VoteList::new(alloc);
+    for i in 0..s.instances() {
+        votes.push(vote_on(alloc, s, me, pairs.at(i as usize), third, fourth, i)?)?;
+    }
+    Ok(votes)
+}
+
+// The vote on instance i, of which `pair` is held: the receiver isn't revealed, all revealed pairs agree with its own,
+// and all open complaints are settled.
+fn vote_on(
+    alloc: Global,
+    s: &Setting,
+    me: u32,
+    pair: &PolyPair,
+    third: &PostList,
+    fourth: &PostList,
+    i: u32,
+) -> Result<bool, OutOfMemory>
+    requires receiver { IsReceiver s.now me }
+    requires third { length third.now ≡ seats s.now }
+    requires fourth { length fourth.now ≡ seats s.now }
+    requires instance { i < instances s.now }
+    ensures { IfOk result (λ b. b ≡ votes_yes s.now.receivers (heard_complaint s.now third.now i) (heard_shown fourth.now i) me pair.now) }
+{
+    let dealers = s.dealers();
+    prove!(i / 5 < dealers);
+    let reveals = fourth.at((i / 5) as usize);
+    let hidden = is_hidden(reveals, i % 5, me);
+    let fit = all_fit(alloc, s, me, pair, reveals, i % 5)?;
+    let settled = all_settled(s, third, reveals, i);
+    Ok(hidden && (fit && settled))
+}
+
+// Whether each revealed pair of a lane agrees with the own.
+fn all_fit(
+    alloc: Global,
+    s: &Setting,
+    me: u32,
+    pair: &PolyPair,
+    reveals: &Post,
+    lane: u32,
+) -> Result<bool, OutOfMemory>
+    ensures { IfOk result (λ b. b ≡ everyone s.now.receivers (λ k. fits me pair.now k (shown_in lane k reveals.now))) }
+{
+    let mut fit = true;
+    for k in 1..s.receivers() + 1 {
+        let one = one_fits(alloc, me, pair, reveals, lane, k)?;
+        fit = fit && one;
+    }
+    Ok(fit)
+}
+
+// Whether the revealed pair of k, where there is one, agrees with the own.
+fn one_fits(
+    alloc: Global,
+    me: u32,
+    pair: &PolyPair,
+    reveals: &Post,
+    lane: u32,
+    k: u32,
+) -> Result<bool, OutOfMemory>
+    ensures { IfOk result (λ b. b ≡ fits me pair.now k (shown_in lane k reveals.now)) }
+{
+    match revealed_in(alloc, reveals, lane, k)? {
+        None => Ok(true),
+        Some(theirs) => {
+            let (u, v) = pair.at(k);
+            let (a, b) = theirs.at(me);
+            Ok(a == v && b == u)
+        }
+    }
+}
+
+// Whether every two receivers that complain of each other in instance i, and are not revealed, tell the same.
+fn all_settled(s: &Setting, third: &PostList, reveals: &Post, i: u32) -> bool
+    requires { length third.now ≡ seats s.now }
+    ensures { result ≡ everyone s.now.receivers (λ k. everyone s.now.receivers (λ l. settled (shown_in (lane_of i) k reveals.now) (shown_in (lane_of i) l reveals.now) (heard_complaint s.now third.now i k l) (heard_complaint s.now third.now i l k))) }
+{
+    let mut settled = true;
+    for k in 1..s.receivers() + 1 {
+        settled = settled && settled_with_all(s, third, reveals, i, k);
+    }
+    settled
+}
+
+// The same for one receiver k and every other.
+fn settled_with_all(s: &Setting, third: &PostList, reveals: &Post, i: u32, k: u32) -> bool
+    requires all { length third.now ≡ seats s.now }
+    requires receiver { IsReceiver s.now k }
+    ensures { result ≡ everyone s.now.receivers (λ l. settled (shown_in (lane_of i) k reveals.now) (shown_in (lane_of i) l reveals.now) (heard_complaint s.now third.now i k l) (heard_complaint s.now third.now i l k)) }
+{
+    let mut settled = true;
+    for l in 1..s.receivers() + 1 {
+        settled = settled && is_settled(s, third, reveals, i, k, l);
+    }
+    settled
+}
+
+// The same for two receivers.
+fn is_settled(s: &Setting, third: &PostList, reveals: &Post, i: u32, k: u32, l: u32) -> bool
+    requires all { length third.now ≡ seats s.now }
+    requires first { IsReceiver s.now k }
+    requires second { IsReceiver s.now l }
+    ensures { result ≡ settled (shown_in (lane_of i) k reveals.now) (shown_in (lane_of i) l reveals.now) (heard_complaint s.now third.now i k l) (heard_complaint s.now third.now i l k) }
+{
+    if !is_hidden(reveals, i % 5, k) || !is_hidden(reveals, i % 5, l) {
+        return true;
+    }
+    let one = complaint_in(third.at((s.seat_of(k) - 1) as usize), i, l);
+    let other = complaint_in(third.at((s.seat_of(l) - 1) as usize), i, k);
+    tell_the_same(one, other)
+}
+
+// Whether two complaints, where both are there, tell the same values, swapped.
+fn tell_the_same(one: Option<(Fe, Fe)>, other: Option<(Fe, Fe)>) -> bool
+    ensures { result ≡ told_same (two_or one) (two_or other) }
+{
+    match (one, other) {
+        (Some((u, v)), Some((a, b))) => u == b && v == a,
+        _ => true,
+    }
+}
