@@ -1,11 +1,13 @@
 -- The meaning of a command: one equation for each.
 use Rattle.std.specs.Prelude.{◌≡◌, ◌⊎◌, ◌≤◌, ℕ, List, length, Option, IfSome}
 use Rattle.shelf.specs.Held.{Held}
-use Rattle.keyroom.specs.Words.{Command, Create, Recover, Check, ReadsAs, IsUsage}
+use Rattle.keyroom.specs.Words.{Command, Create, Recover, Check, Seal, Open, ReadsAs, IsUsage}
 use Rattle.keyroom.specs.declared.status.Status.TheVariants.{Usage}
 use Rattle.keyroom.specs.Outcome.{Outcome, refused}
 use Rattle.keyroom.specs.Recover.{MeansRecover}
 use Rattle.keyroom.specs.Check.{MeansCheck}
+use Rattle.keyroom.specs.Seal.{MeansSeal}
+use Rattle.keyroom.specs.Open.{MeansOpen}
 use Rattle.committee.specs.Create.{MeansCreate}
 
 -- what a command is given: what the shelf holds, and the seeds to come, where they are told
@@ -17,6 +19,8 @@ abbrev pub MeansCommand : Command → Given → Outcome → Type 0
 MeansCommand (Create name n t) given = MeansCreate name n t given.held given.coming
 MeansCommand (Recover name) given = MeansRecover name given.held
 MeansCommand (Check name) given = MeansCheck name given.held
+MeansCommand (Seal name doc target) given = MeansSeal name doc target given.held
+MeansCommand (Open name source target) given = MeansOpen name source target given.held
 
 -- what the words mean: no command is Usage, and a command is what it means
 abbrev pub Means : List (List ℕ) → Given → Outcome → Type 0
@@ -29,6 +33,8 @@ abbrev pub seeds_named : Command → ℕ
 seeds_named (Create name n t) = n
 seeds_named (Recover name) = 0
 seeds_named (Check name) = 0
+seeds_named (Seal name doc target) = 0
+seeds_named (Open name source target) = 0
 
 -- the seeds to come are enough for the command that the words are, where they are told
 abbrev pub AreEnough : List (List ℕ) → Option (List (List ℕ)) → Type 0

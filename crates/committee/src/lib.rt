@@ -10,7 +10,9 @@ mod top;
 
 pub use keyroom::{Status, What};
 pub use plain::plain_shares;
-pub use top::{honest_files_are_recovered, one_meaning, one_status, run};
+pub use top::{
+    honest_files_are_recovered, honest_files_open, honest_files_seal, one_meaning, one_status, run,
+};
 
 #[cfg(test)]
 mod tests;

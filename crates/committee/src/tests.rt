@@ -2,8 +2,8 @@ ghost use Rattle.std.specs.Prelude.{◌≤◌};
 
 use super::*;
 use field61::Fe;
-use keyroom::{MemberState, check_key, recover_key};
-use sharefile::{KeyName, NowFile, ShareFile, write_now, write_share};
+use keyroom::{MemberState, Sealed, check_key, open_doc, recover_key, seal_doc};
+use sharefile::{KeyName, NowFile, ShareFile, read_now, write_now, write_share};
 use shelf::{MemoryEntropy, MemoryShelf, MemorySink, Shelf};
 use std::alloc::Global;
 use std::test::Fail;
@@ -174,16 +174,18 @@ fn refuses_a_key_that_is_not_held(rt: HostRuntime) -> Result<(), Fail> {
     )
 }
 
+/// What the create of `k1` with 4 members prints.
+const CREATED: &str = "create k1 4 1 period 1\n\
+    round 1 mask 15\nround 2 mask 15\nround 3 mask 15\nround 4 mask 15\nround 5 mask 15\n\
+    accepted 20 of 20\nshares 1 2 3 4\n";
+
 #[test]
 fn creates_a_key_that_recover_finds(rt: HostRuntime) -> Result<(), Fail> {
     let alloc = rt.alloc();
     let mut shelf = MemoryShelf::new(alloc, Vec::new(alloc));
     // What a stopped create may have left.
     shelf.put(alloc, "k1.1.9.share", b"left")?;
-    let text = "create k1 4 1 period 1\n\
-        round 1 mask 15\nround 2 mask 15\nround 3 mask 15\nround 4 mask 15\nround 5 mask 15\n\
-        accepted 20 of 20\nshares 1 2 3 4\n";
-    runs(alloc, &mut shelf, &["create", "k1", "4", "1"], "", text)?;
+    runs(alloc, &mut shelf, &["create", "k1", "4", "1"], "", CREATED)?;
     assert_eq!(rt; shelf.len(), 5);
     assert!(rt; shelf.get(alloc, "k1.1.9.share")?.is_none());
     // The key is the sum of the four members' constants, drawn from their seeds by another implementation.
@@ -216,5 +218,197 @@ fn changes_nothing_where_the_first_seed_fails(rt: HostRuntime) -> Result<(), Fai
     assert_eq!(rt; status, Status::EntropyFault);
     assert_eq!(rt; shelf.len(), 0);
     assert_eq!(rt; out.bytes().len(), 0);
+    Ok(())
+}
+
+const LETTER: &[u8; 14] = b"Meet at noon.\n";
+
+/// The number that the next document of `k1` gets.
+fn next_number(alloc: Global, shelf: &mut MemoryShelf) -> Result<u32, Fail> {
+    let bytes = shelf.get(alloc, "k1.now")?.ok_or("a now file")?;
+    let Ok(now) = read_now(&bytes) else {
+        return Err("a sound now file".into());
+    };
+    Ok(now.next_number)
+}
+
+#[test]
+fn a_sealed_letter_is_opened(rt: HostRuntime) -> Result<(), Fail> {
+    let alloc = rt.alloc();
+    let mut shelf = MemoryShelf::new(alloc, Vec::new(alloc));
+    shelf.put(alloc, "letter.txt", LETTER)?;
+    runs(alloc, &mut shelf, &["create", "k1", "4", "1"], "", CREATED)?;
+    let words = ["seal", "k1", "letter.txt", "letter.box"];
+    runs(alloc, &mut shelf, &words, "", "seal k1 number 0 bytes 14\n")?;
+    assert_eq!(rt; next_number(alloc, &mut shelf)?, 1);
+    let sealed = shelf.get(alloc, "letter.box")?.ok_or("a box")?;
+    assert_eq!(rt; sealed.len(), 94);
+    let words = ["open", "k1", "letter.box", "out.txt"];
+    runs(alloc, &mut shelf, &words, "", "open k1 number 0 bytes 14\n")?;
+    let letter = shelf.get(alloc, "out.txt")?.ok_or("a document")?;
+    assert_eq!(rt; letter.as_slice(), LETTER.as_slice());
+    Ok(())
+}
+
+/// Runs `VERB k1 SOURCE TARGET` on a shelf, and fails where another line is answered, a text is printed or the number
+/// of names changes.
+fn refuses(
+    alloc: Global,
+    shelf: &mut MemoryShelf,
+    verb: &str,
+    source: &str,
+    target: &str,
+    line: &str,
+) -> Result<(), Fail> {
+    let names = shelf.len();
+    runs(alloc, shelf, &[verb, "k1", source, target], line, "")?;
+    if shelf.len() != names {
+        return Err("a changed shelf".into());
+    }
+    Ok(())
+}
+
+#[test]
+fn seal_and_open_refuse_in_their_order(rt: HostRuntime) -> Result<(), Fail> {
+    let alloc = rt.alloc();
+    let mut shelf = shelf_of(alloc, 16)?;
+    shelf.put(alloc, "letter.txt", LETTER)?;
+    refuses(
+        alloc,
+        &mut shelf,
+        "seal",
+        "none",
+        "letter.txt",
+        "refused 4 exists",
+    )?;
+    refuses(
+        alloc,
+        &mut shelf,
+        "seal",
+        "none",
+        "a.box",
+        "refused 3 nosuch document",
+    )?;
+    refuses(
+        alloc,
+        &mut shelf,
+        "open",
+        "none",
+        "letter.txt",
+        "refused 4 exists",
+    )?;
+    refuses(
+        alloc,
+        &mut shelf,
+        "open",
+        "none",
+        "out.txt",
+        "refused 3 nosuch box",
+    )?;
+    refuses(
+        alloc,
+        &mut shelf,
+        "open",
+        "letter.txt",
+        "out.txt",
+        "refused 7 box 1",
+    )?;
+    Ok(())
+}
+
+#[test]
+fn words_that_name_no_document_are_usage(rt: HostRuntime) -> Result<(), Fail> {
+    let alloc = rt.alloc();
+    for word in ["", "-a", "k1.now", "a.share", "a\0b"] {
+        is_usage(alloc, &["seal", "k1", word, "a.box"])?;
+        is_usage(alloc, &["open", "k1", "a.box", word])?;
+    }
+    is_usage(alloc, &["seal", "k1", "a.txt"])
+}
+
+#[test]
+fn a_box_with_a_changed_byte_is_refused(rt: HostRuntime) -> Result<(), Fail> {
+    let alloc = rt.alloc();
+    let mut shelf = shelf_of(alloc, 16)?;
+    shelf.put(alloc, "letter.txt", LETTER)?;
+    let words = ["seal", "k1", "letter.txt", "letter.box"];
+    runs(alloc, &mut shelf, &words, "", "seal k1 number 0 bytes 14\n")?;
+    let mut sealed = shelf.get(alloc, "letter.box")?.ok_or("a box")?;
+    *sealed.get_mut(50).ok_or("a byte")? ^= 1;
+    shelf.put(alloc, "changed.box", &sealed)?;
+    refuses(
+        alloc,
+        &mut shelf,
+        "open",
+        "changed.box",
+        "out.txt",
+        "refused 7 box 5",
+    )?;
+    Ok(())
+}
+
+#[test]
+fn the_last_number_is_refused(rt: HostRuntime) -> Result<(), Fail> {
+    let alloc = rt.alloc();
+    let mut shelf = shelf_of(alloc, 16)?;
+    shelf.put(alloc, "letter.txt", LETTER)?;
+    let now = NowFile {
+        name: KeyName::from_text("k1").ok_or("a name")?,
+        n: 4,
+        t: 1,
+        period: 1,
+        next_number: u32::MAX,
+    };
+    shelf.put(alloc, "k1.now", &write_now(alloc, &now)?)?;
+    refuses(
+        alloc,
+        &mut shelf,
+        "seal",
+        "letter.txt",
+        "a.box",
+        "refused 8 full 4294967295",
+    )
+}
+
+#[test]
+fn a_document_of_one_byte_too_many_is_refused(rt: HostRuntime) -> Result<(), Fail> {
+    let alloc = rt.alloc();
+    let mut shelf = shelf_of(alloc, 16)?;
+    let mut long = Vec::new(alloc);
+    long.resize(67108865, 0)?;
+    shelf.put(alloc, "long.txt", &long)?;
+    refuses(
+        alloc,
+        &mut shelf,
+        "seal",
+        "long.txt",
+        "a.box",
+        "refused 16 length 67108865",
+    )
+}
+
+#[test]
+fn the_calls_seal_and_open(rt: HostRuntime) -> Result<(), Fail> {
+    let alloc = rt.alloc();
+    let name = KeyName::from_text("k1").ok_or("a name")?;
+    let mut shelf = shelf_of(alloc, 99)?;
+    shelf.put(alloc, "letter.txt", LETTER)?;
+    let sealed = seal_doc(alloc, &mut shelf, &name, "letter.txt", "letter.box").ok();
+    assert!(rt;
+        sealed
+            == Some(Sealed {
+                number: 0,
+                bytes: 14
+            })
+    );
+    shelf.remove(alloc, "k1.1.3.share")?;
+    let opened = open_doc(alloc, &mut shelf, &name, "letter.box", "out.txt").ok();
+    assert!(rt;
+        opened
+            == Some(Sealed {
+                number: 0,
+                bytes: 14
+            })
+    );
     Ok(())
 }

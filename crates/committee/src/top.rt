@@ -3,26 +3,31 @@ ghost use Rattle.std.specs.Prelude.{◌≡◌, ◌≢◌, ◌≤◌, ◌↔◌, 
 ghost use Rattle.algebra61.specs.Polynomial.{Polynomial};
 ghost use Rattle.sharefile.specs.Files.{Now};
 ghost use Rattle.shelf.specs.Causes.{OnlyReads, Rose};
-ghost use Rattle.keyroom.specs.Words.{Recover, ReadsAs, texts, IsUsage, IsInRange};
+ghost use Rattle.keyroom.specs.Words.{Recover, Seal, Open, ReadsAs, texts, IsUsage, IsInRange};
 ghost use Rattle.keyroom.specs.Commands.{command_of};
 ghost use Rattle.keyroom.specs.Outcome.{Outcome, done};
 ghost use Rattle.keyroom.specs.Steps.{now_of, files_of};
 ghost use Rattle.keyroom.specs.Decoding.{EnoughLieOn};
 ghost use Rattle.keyroom.specs.Recover.{recovered_by};
 ghost use Rattle.keyroom.specs.Texts.{recover_text};
+ghost use Rattle.keyroom.specs.Work.{KeyIsOf};
+ghost use Rattle.keyroom.specs.Seal.{SealCommandBy};
+ghost use Rattle.keyroom.specs.Open.{OpenCommandBy};
 ghost use Rattle.committee.specs.Meaning.{Given, MeansCommand, Means, AreEnough, seeds_named};
 ghost use Rattle.committee.specs.Answer.{PlansWith, Does, IsQuiet};
 ghost use Rattle.committee.specs.Causes.{IsFromSeededPlan};
 
 use crate::create::plan_create;
-use keyroom::{Command, Plan, Status, carry_out, plan_check, plan_recover, read_words};
+use keyroom::{
+    Command, Plan, Status, carry_out, plan_check, plan_open, plan_recover, plan_seal, read_words,
+};
 use shelf::{Entropy, Shelf, Sink};
 use std::alloc::Global;
 
 /// What a command will do. The shelf is only asked.
 fn plan<H: Shelf, E: Entropy>(
     alloc: Global,
-    command: &Command,
+    command: &Command<'_>,
     shelf: &mut H,
     entropy: &mut E,
 ) -> Result<Plan, Status>
@@ -37,6 +42,12 @@ fn plan<H: Shelf, E: Entropy>(
         Command::Create { name, n, t } => plan_create(alloc, name, *n, *t, shelf, entropy),
         Command::Recover { name } => plan_recover(alloc, name, shelf),
         Command::Check { name } => plan_check(alloc, name, shelf),
+        Command::Seal { name, doc, target } => plan_seal(alloc, name, doc, target, shelf),
+        Command::Open {
+            name,
+            source,
+            target,
+        } => plan_open(alloc, name, source, target, shelf),
     }
 }
 
@@ -101,4 +112,16 @@ pub fn one_meaning()
 /// `recover NAME` means that their values at 0 are the key, whatever the other files are.
 pub fn honest_files_are_recovered()
     ensures { (words : List (List ℕ)) (name : List ℕ) (given : Given) (now : Now) (polys : List Polynomial) (outcome : Outcome) → ReadsAs words (Recover name) → now_of name given.held ≡ Ok now → EnoughLieOn now.n now.t (files_of now given.held) polys → Means words given outcome → outcome ≡ done [] (recover_text (recovered_by now (files_of now given.held) polys)) }
+{}
+
+/// Any N - T honest share files are enough to seal a document: its box is then one under the values at 0 of the
+/// polynomials that these files lie on, whatever the other files are.
+pub fn honest_files_seal()
+    ensures { (words : List (List ℕ)) (name doc target : List ℕ) (given : Given) (now : Now) (polys : List Polynomial) (outcome : Outcome) → ReadsAs words (Seal name doc target) → now_of name given.held ≡ Ok now → EnoughLieOn now.n now.t (files_of now given.held) polys → Means words given outcome → SealCommandBy (KeyIsOf polys) name doc target given.held outcome }
+{}
+
+/// Any N - T honest share files are enough to open a box: it is opened under the values at 0 of the polynomials that
+/// these files lie on, whatever the other files are.
+pub fn honest_files_open()
+    ensures { (words : List (List ℕ)) (name source target : List ℕ) (given : Given) (now : Now) (polys : List Polynomial) (outcome : Outcome) → ReadsAs words (Open name source target) → now_of name given.held ≡ Ok now → EnoughLieOn now.n now.t (files_of now given.held) polys → Means words given outcome → OpenCommandBy (KeyIsOf polys) name source target given.held outcome }
 {}

@@ -137,6 +137,12 @@ pub honest_end : (name : List ℕ) (held : Held) (now : Now) (polys : List Polyn
     EnoughLieOn now.n now.t (files_of now held) polys → MeansKey name held end → end ≡ Ok (recovered_by now (files_of now held) polys)
 honest_end name held now polys end read h means = honest_then name held now polys (now_of name held) end read (now_sizes name held now read) h means
 
+-- recovery then ends with them
+pub honest_is_meant : (name : List ℕ) (held : Held) (now : Now) (polys : List Polynomial) → now_of name held ≡ Ok now → EnoughLieOn now.n now.t (files_of now held) polys → MeansKey name held (Ok (recovered_by now (files_of now held) polys))
+honest_is_meant name held now polys read h =
+    subst (λ r. Then r (λ f. MeansKeyOf f (files_of f held)) (Ok (recovered_by now (files_of now held) polys))) (sym read)
+    (inl (polys, enough_are_nearest now.n now.t (files_of now held) polys (bound_fits now.n now.t (now_sizes name held now read).bound).1 (files_count now held) h, refl))
+
 -- the same of a call that answered what is meant
 honest_answer : (told : Option Held) (name : List ℕ) (result : Result Recovered Status) → IfSome told (λ m. Answers (MeansKey name m) result) →
     IfSome told (λ m. (now : Now) (polys : List Polynomial) → now_of name m ≡ Ok now → EnoughLieOn now.n now.t (files_of now m) polys → Answers (λ end. end ≡ Ok (recovered_by now (files_of now m) polys)) result)

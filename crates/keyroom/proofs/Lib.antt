@@ -7,3 +7,6 @@ pub mod Digits
 pub mod Refusals
 pub mod Honest
 pub mod Checking
+pub mod Named
+pub mod Working
+pub mod RoundTrip

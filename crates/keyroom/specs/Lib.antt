@@ -10,3 +10,6 @@ pub mod Decoding
 pub mod Recover
 pub mod Check
 pub mod Texts
+pub mod Work
+pub mod Seal
+pub mod Open

@@ -1,10 +1,11 @@
 -- The number and the line of a status.
 use Rattle.std.specs.Prelude.{ℕ, List, [], ◌++◌, codes, decimal}
 use Rattle.sharefile.specs.Reading.{number_of}
+use Rattle.docvault.specs.Opening as opening
 use Rattle.keyroom.specs.declared.status.Status.{Status}
-use Rattle.keyroom.specs.declared.status.Status.TheVariants.{Done, Usage, NoSuch, Exists, NoKey, ShelfFault, EntropyFault, SinkFault, OutOfMemory, BadNow}
+use Rattle.keyroom.specs.declared.status.Status.TheVariants.{Done, Usage, NoSuch, Exists, NoKey, BadBox, Full, ShelfFault, EntropyFault, SinkFault, OutOfMemory, BadNow, TooLong}
 use Rattle.keyroom.specs.declared.status.What.{What}
-use Rattle.keyroom.specs.declared.status.What.TheVariants.{Now}
+use Rattle.keyroom.specs.declared.status.What.TheVariants.{Now, Document, Box}
 
 -- the number that the program ends with
 abbrev pub code_of : Status → ℕ
@@ -13,15 +14,20 @@ code_of Usage = 2
 code_of (NoSuch what) = 3
 code_of Exists = 4
 code_of (NoKey lane) = 6
+code_of (BadBox fault) = 7
+code_of (Full number) = 8
 code_of ShelfFault = 10
 code_of EntropyFault = 11
 code_of SinkFault = 13
 code_of OutOfMemory = 14
 code_of (BadNow fault) = 15
+code_of (TooLong length) = 16
 
 -- the word for a thing that isn't held
 abbrev pub what_text : What → List ℕ
 what_text Now = codes "now"
+what_text Document = codes "document"
+what_text Box = codes "box"
 
 -- the line, without a line feed
 abbrev pub status_line : Status → List ℕ
@@ -30,8 +36,11 @@ status_line Usage = codes "refused 2 usage"
 status_line (NoSuch what) = codes "refused 3 nosuch " ++ what_text what
 status_line Exists = codes "refused 4 exists"
 status_line (NoKey lane) = codes "refused 6 lane " ++ decimal lane
+status_line (BadBox fault) = codes "refused 7 box " ++ decimal (opening.number_of fault)
+status_line (Full number) = codes "refused 8 full " ++ decimal number
 status_line ShelfFault = codes "refused 10 shelf"
 status_line EntropyFault = codes "refused 11 entropy"
 status_line SinkFault = codes "refused 13 sink"
 status_line OutOfMemory = codes "refused 14 memory"
 status_line (BadNow fault) = codes "refused 15 now " ++ decimal (number_of fault)
+status_line (TooLong length) = codes "refused 16 length " ++ decimal length

@@ -1,5 +1,5 @@
 -- Steps that more than one command takes.
-use Rattle.std.specs.Prelude.{ℕ, List, map, Bool, ◌&&◌, ◌==◌, Option, Some, None, Result, Ok, Err, if◌then◌else◌}
+use Rattle.std.specs.Prelude.{ℕ, List, map, Bool, ◌&&◌, ◌==◌, Option, Some, None, Result, Ok, Err, if◌then◌else◌, length, nat_lt, ◌^◌}
 use Rattle.std.specs.List.{range_with_len}
 use Rattle.std.specs.Str.{bytes_eq}
 use Rattle.std.specs.FinMap.{get}
@@ -9,7 +9,8 @@ use Rattle.sharefile.specs.declared.fault.FileFault.TheVariants.{Field}
 use Rattle.sharefile.specs.Files.{Now, Share}
 use Rattle.sharefile.specs.Reading.{now_at, share_at}
 use Rattle.keyroom.specs.declared.status.Status.{Status}
-use Rattle.keyroom.specs.declared.status.Status.TheVariants.{NoSuch, Exists, BadNow}
+use Rattle.keyroom.specs.declared.status.Status.TheVariants.{NoSuch, Exists, BadNow, Full, TooLong}
+use Rattle.keyroom.specs.declared.status.What.{What}
 use Rattle.keyroom.specs.declared.status.What.TheVariants.{Now as NowFile}
 use Rattle.keyroom.specs.declared.steps.Found.{Found}
 use Rattle.keyroom.specs.declared.steps.Found.TheVariants.{Absent, Invalid, Valid}
@@ -35,6 +36,40 @@ free_step (Some bytes) = Err Exists
 -- step: a name that is to be made must not be held
 abbrev pub free_of : List ℕ → Held → Result (Unit {0}) Status
 free_of name held = free_step (get held name)
+
+abbrev pub bytes_step : What → Option (List ℕ) → Result (List ℕ) Status
+bytes_step what None = Err (NoSuch what)
+bytes_step what (Some bytes) = Ok bytes
+
+-- step: get a document or a box, which must be held
+abbrev pub bytes_of : What → List ℕ → Held → Result (List ℕ) Status
+bytes_of what name held = bytes_step what (get held name)
+
+infixl 10 ◌and_then◌
+-- the second step over what the first gives, or the first's refusal
+abbrev pub ◌and_then◌ : {A B : Type 0} → Result A Status → (A → Result B Status) → Result B Status
+(Ok x) and_then f = f x
+(Err status) and_then f = Err status
+
+-- what sealing and opening ask for before the share files: the now file, and the bytes of the document or box
+pub record Asked : Type 0 where
+  pub now : Now
+  pub bytes : List ℕ
+
+-- steps: get NAME.now, then the target, which must not be held, then the document or box
+abbrev pub asked_of : List ℕ → List ℕ → What → List ℕ → Held → Result Asked Status
+asked_of name target what source held =
+    now_of name held and_then λ now.
+    free_of target held and_then λ free.
+    bytes_of what source held and_then λ bytes.
+    Ok (record { now = now; bytes = bytes })
+
+-- steps: the next number must not be the last one, and then the document must not be too long
+abbrev pub sealable : Asked → Result (Unit {0}) Status
+sealable asked =
+    if asked.now.next_number == 4294967295 then Err (Full 4294967295) else
+    if nat_lt (2 ^ 26) (length asked.bytes) then Err (TooLong (length asked.bytes)) else
+    Ok tt
 
 -- the share file is the one that was asked for
 abbrev pub is_asked : Now → ℕ → Share → Bool

@@ -59,3 +59,11 @@ shares_line indexes = line (codes "shares" ++ flat_map (λ index. codes " " ++ d
 abbrev pub create_text : Now → List ℕ → ℕ → ℕ → List ℕ → List ℕ
 create_text f masks accepted instances indexes =
     line (codes "create " ++ committee_words f) ++ (round_lines 1 masks ++ (accepted_line accepted instances ++ shares_line indexes))
+
+-- what a seal prints: the document's number and length
+abbrev pub seal_text : List ℕ → ℕ → ℕ → List ℕ
+seal_text name number bytes = line (codes "seal " ++ (name ++ (codes " number " ++ (decimal number ++ (codes " bytes " ++ decimal bytes)))))
+
+-- what an open prints: the document's number and length
+abbrev pub open_text : List ℕ → ℕ → ℕ → List ℕ
+open_text name number bytes = line (codes "open " ++ (name ++ (codes " number " ++ (decimal number ++ (codes " bytes " ++ decimal bytes)))))

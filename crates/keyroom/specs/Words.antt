@@ -1,5 +1,6 @@
 -- Which command a list of words is. A command has exactly one spelling.
-use Rattle.std.specs.Prelude.{◌≡◌, decimal, ℕ, List, [], ◌∷◌, map, String, string_bytes, codes, IsTrue}
+use Rattle.std.specs.Prelude.{◌≡◌, decimal, ℕ, eqb, nat_le, List, [], ◌∷◌, map, length, String, string_bytes, codes, Bool, not, ◌&&◌, ◌||◌, ◌==◌, IsTrue}
+use Rattle.std.specs.List.{list_all, starts_with, ends_with}
 use Rattle.sharefile.specs.Names.{is_key_name}
 
 -- a command, by its words
@@ -7,6 +8,8 @@ pub data Command : Type 0 where
   Create : List ℕ → ℕ → ℕ → Command
   Recover : List ℕ → Command
   Check : List ℕ → Command
+  Seal : List ℕ → List ℕ → List ℕ → Command
+  Open : List ℕ → List ℕ → List ℕ → Command
 
 -- the words' bytes
 module _ {Y : Type 0} where
@@ -17,12 +20,28 @@ abbrev pub spelling : Command → List (List ℕ)
 spelling (Create name n t) = codes "create" ∷ name ∷ decimal n ∷ decimal t ∷ []
 spelling (Recover name) = codes "recover" ∷ name ∷ []
 spelling (Check name) = codes "check" ∷ name ∷ []
+spelling (Seal name doc target) = codes "seal" ∷ name ∷ doc ∷ target ∷ []
+spelling (Open name source target) = codes "open" ∷ name ∷ source ∷ target ∷ []
+
+-- it doesn't begin with `-` and holds no zero byte
+abbrev pub is_plain_text : List ℕ → Bool
+is_plain_text text = not (starts_with eqb text (codes "-")) && list_all (λ b. not (b == 0)) text
+
+-- it ends like the name of a now file or of a share file
+abbrev pub ends_like_a_key_file : List ℕ → Bool
+ends_like_a_key_file text = ends_with eqb text (codes ".now") || ends_with eqb text (codes ".share")
+
+-- a word that may name a document or a box: 1 to 255 bytes of plain text that don't end like a key's file
+unfoldable pub is_file_name : List ℕ → Bool
+is_file_name text = nat_le 1 (length text) && nat_le (length text) 255 && is_plain_text text && not (ends_like_a_key_file text)
 
 -- Each word is in its range. The committee of 4 members of whom 1 may be faulty is the one that is built.
 abbrev pub IsInRange : Command → Type 0
 IsInRange (Create name n t) = IsTrue (is_key_name name) × (n ≡ 4) × (t ≡ 1)
 IsInRange (Recover name) = IsTrue (is_key_name name)
 IsInRange (Check name) = IsTrue (is_key_name name)
+IsInRange (Seal name doc target) = IsTrue (is_key_name name) × IsTrue (is_file_name doc) × IsTrue (is_file_name target)
+IsInRange (Open name source target) = IsTrue (is_key_name name) × IsTrue (is_file_name source) × IsTrue (is_file_name target)
 
 -- the words are the command's spelling
 pub record ReadsAs (words : List (List ℕ)) (command : Command) : Type 0 where

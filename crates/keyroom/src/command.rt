@@ -1,23 +1,44 @@
 //! The words of a command.
-ghost use Rattle.std.specs.Prelude.{◌≡◌, ◌↔◌, ◌∷◌, IfSome, IfNone, IsTrue, codes, decimal};
-ghost use Rattle.keyroom.specs.Words.{texts, ReadsAs, IsUsage};
+ghost use Rattle.std.specs.Prelude.{◌≡◌, ◌↔◌, ◌∷◌, ◌==◌, not, eqb, IfSome, IfNone, IsTrue, codes, decimal};
+ghost use Rattle.std.specs.List.{list_all, starts_with};
+ghost use Rattle.keyroom.specs.Words.{texts, ReadsAs, IsUsage, is_plain_text, ends_like_a_key_file, is_file_name};
 ghost use Rattle.keyroom.specs.Commands.{command_of};
 
 use sharefile::KeyName;
 
 /// A command. Words that may be long are lent by whoever read them, so that reading takes no memory.
 #[derive(Clone, Copy, Debug)]
-pub enum Command {
+pub enum Command<'a> {
     /// `create NAME N T`: makes a key of N members, of whom at most T may be faulty.
-    Create { name: KeyName, n: u32, t: u32 },
+    Create {
+        name: KeyName,
+        n: u32,
+        t: u32,
+    },
     /// `recover NAME`: prints the members' states and the fingerprint of the key.
-    Recover { name: KeyName },
+    Recover {
+        name: KeyName,
+    },
     /// `check NAME`: prints the members' states.
-    Check { name: KeyName },
+    Check {
+        name: KeyName,
+    },
+    /// `seal NAME DOC BOX`: seals the document under the name `doc` into a box under the name `target`.
+    Seal {
+        name: KeyName,
+        doc: &'a str,
+        target: &'a str,
+    },
+    /// `open NAME BOX DOC`: opens the box under the name `source` into a document under the name `target`.
+    Open {
+        name: KeyName,
+        source: &'a str,
+        target: &'a str,
+    },
 }
 
 /// The command that these words are. `None` exactly where no command is spelled so.
-pub fn read_words(words: &[String]) -> Option<Command>
+pub fn read_words(words: &[String]) -> Option<Command<'_>>
     ensures found { IfSome result (λ command. ReadsAs (texts words.now) (command_of command)) }
     ensures none { IfNone result (IsUsage (texts words.now)) }
 {
@@ -26,6 +47,8 @@ pub fn read_words(words: &[String]) -> Option<Command>
         "create" => create_words(rest),
         "recover" => recover_words(rest),
         "check" => check_words(rest),
+        "seal" => seal_words(rest),
+        "open" => open_words(rest),
         _ => None,
     }
 }
@@ -37,7 +60,7 @@ fn is_built(n: &str, t: &str) -> bool
     n == "4" && t == "1"
 }
 
-fn create_words(rest: &[String]) -> Option<Command>
+fn create_words(rest: &[String]) -> Option<Command<'_>>
     ensures found { IfSome result (λ command. ReadsAs (codes "create" ∷ texts rest.now) (command_of command)) }
     ensures none { IfNone result (IsUsage (codes "create" ∷ texts rest.now)) }
 {
@@ -51,7 +74,7 @@ fn create_words(rest: &[String]) -> Option<Command>
     }
 }
 
-fn recover_words(rest: &[String]) -> Option<Command>
+fn recover_words(rest: &[String]) -> Option<Command<'_>>
     ensures found { IfSome result (λ command. ReadsAs (codes "recover" ∷ texts rest.now) (command_of command)) }
     ensures none { IfNone result (IsUsage (codes "recover" ∷ texts rest.now)) }
 {
@@ -63,7 +86,7 @@ fn recover_words(rest: &[String]) -> Option<Command>
     }
 }
 
-fn check_words(rest: &[String]) -> Option<Command>
+fn check_words(rest: &[String]) -> Option<Command<'_>>
     ensures found { IfSome result (λ command. ReadsAs (codes "check" ∷ texts rest.now) (command_of command)) }
     ensures none { IfNone result (IsUsage (codes "check" ∷ texts rest.now)) }
 {
@@ -71,6 +94,80 @@ fn check_words(rest: &[String]) -> Option<Command>
         [name] => Some(Command::Check {
             name: KeyName::from_text(name.as_str())?,
         }),
+        _ => None,
+    }
+}
+
+fn begins_with_a_dash(text: &[u8]) -> bool
+    ensures { result ≡ starts_with eqb text.now (codes "-") }
+{
+    text.starts_with(b"-")
+}
+
+fn has_no_zero(text: &[u8]) -> bool
+    ensures { result ≡ list_all (λ b. not (b == 0)) text.now }
+{
+    text.iter().all(|b| *b != 0)
+}
+
+/// Whether the text doesn't begin with `-` and holds no zero byte.
+fn is_plain_text(text: &[u8]) -> bool
+    ensures { result ≡ is_plain_text text.now }
+{
+    !begins_with_a_dash(text) && has_no_zero(text)
+}
+
+/// Whether the text ends like the name of a key's file.
+fn ends_like_a_key_file(text: &[u8]) -> bool
+    ensures { result ≡ ends_like_a_key_file text.now }
+{
+    text.ends_with(b".now") || text.ends_with(b".share")
+}
+
+/// Whether a word may name a file that is none of a key's.
+#[tactic(auto, unfolding(crate::specs::Words::is_file_name))]
+fn is_file_name(word: &str) -> bool
+    ensures { result ≡ is_file_name word.now }
+{
+    let text = word.as_bytes();
+    1 <= text.len() && text.len() <= 255 && is_plain_text(text) && !ends_like_a_key_file(text)
+}
+
+/// Whether both words may name such files.
+fn are_file_names(first: &str, second: &str) -> bool
+    ensures { IsTrue result ↔ (IsTrue (is_file_name first.now) × IsTrue (is_file_name second.now)) }
+{
+    is_file_name(first) && is_file_name(second)
+}
+
+fn seal_words(rest: &[String]) -> Option<Command<'_>>
+    ensures found { IfSome result (λ command. ReadsAs (codes "seal" ∷ texts rest.now) (command_of command)) }
+    ensures none { IfNone result (IsUsage (codes "seal" ∷ texts rest.now)) }
+{
+    match rest {
+        [name, doc, target] if are_file_names(doc.as_str(), target.as_str()) => Some(
+            Command::Seal {
+                name: KeyName::from_text(name.as_str())?,
+                doc: doc.as_str(),
+                target: target.as_str(),
+            },
+        ),
+        _ => None,
+    }
+}
+
+fn open_words(rest: &[String]) -> Option<Command<'_>>
+    ensures found { IfSome result (λ command. ReadsAs (codes "open" ∷ texts rest.now) (command_of command)) }
+    ensures none { IfNone result (IsUsage (codes "open" ∷ texts rest.now)) }
+{
+    match rest {
+        [name, source, target] if are_file_names(source.as_str(), target.as_str()) => {
+            Some(Command::Open {
+                name: KeyName::from_text(name.as_str())?,
+                source: source.as_str(),
+                target: target.as_str(),
+            })
+        }
         _ => None,
     }
 }

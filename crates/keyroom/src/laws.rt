@@ -1,13 +1,21 @@
-//! Laws of recovery. The functions do nothing: their contracts are the theorems.
-ghost use Rattle.std.specs.Prelude.{◌≡◌, ℕ, List, Result, Ok};
+//! Laws of recovery, and of sealing and opening. The functions do nothing: their contracts are the theorems.
+ghost use Rattle.std.specs.Prelude.{◌≡◌, ◌≤◌, ◌^◌, ◌↔◌, ◌∷◌, [], ℕ, List, length, Result, Ok, Some, None};
 ghost use Rattle.algebra61.specs.Polynomial.{Polynomial};
-ghost use Rattle.shelf.specs.Held.{Held};
+ghost use Rattle.std.specs.FinMap.{get};
+ghost use Rattle.shelf.specs.Held.{Held, Put, after};
 ghost use Rattle.sharefile.specs.Files.{Now};
 ghost use Rattle.keyroom.specs.declared.status.Status.{Status};
 ghost use Rattle.keyroom.specs.declared.recover.Recovered.{Recovered};
 ghost use Rattle.keyroom.specs.declared.check.Checked.{Checked};
+ghost use Rattle.keyroom.specs.declared.status.Status.TheVariants.{Done};
+ghost use Rattle.docvault.specs.Box.{IsBox};
+ghost use Rattle.keyroom.specs.Outcome.{Outcome, done};
+ghost use Rattle.keyroom.specs.Texts.{open_text};
+ghost use Rattle.keyroom.specs.Work.{Work};
+ghost use Rattle.keyroom.specs.Seal.{MeansSealed, MeansSeal};
+ghost use Rattle.keyroom.specs.Open.{MeansOpened, MeansOpen};
 ghost use Rattle.keyroom.specs.Steps.{now_of, files_of};
-ghost use Rattle.keyroom.specs.Decoding.{EnoughLieOn};
+ghost use Rattle.keyroom.specs.Decoding.{EnoughLieOn, key_of};
 ghost use Rattle.keyroom.specs.Recover.{recovered_by, MeansKey};
 ghost use Rattle.keyroom.specs.Check.{MeansStates};
 
@@ -28,4 +36,42 @@ pub fn one_check()
 #[tactic(auto, using(crate::proofs::Honest::honest_end))]
 pub fn honest_files_give_the_key()
     ensures { (name : List ℕ) (held : Held) (now : Now) (polys : List Polynomial) (end : Result Recovered Status) → now_of name held ≡ Ok now → EnoughLieOn now.n now.t (files_of now held) polys → MeansKey name held end → end ≡ Ok (recovered_by now (files_of now held) polys) }
+{}
+
+/// Sealing a document has one end: what the shelf holds fixes the number, the box and the changes, or the refusal.
+#[tactic(auto, using(crate::proofs::Working::one_sealing))]
+pub fn one_sealing()
+    ensures { (name doc target : List ℕ) (held : Held) (a b : Result Work Status) → MeansSealed name doc target held a → MeansSealed name doc target held b → a ≡ b }
+{}
+
+/// Opening a box has one end.
+#[tactic(auto, using(crate::proofs::Working::one_opening))]
+pub fn one_opening()
+    ensures { (name source target : List ℕ) (held : Held) (a b : Result Work Status) → MeansOpened name source target held a → MeansOpened name source target held b → a ≡ b }
+{}
+
+/// A box is opened: where a shelf holds the box of a document under the lanes that recovery gives there, and the target
+/// is free, opening means exactly that this document is put, with its number and length in the text.
+pub fn a_box_is_opened()
+    ensures { (name source copy : List ℕ) (later : Held) (l : Recovered) (number : ℕ) (document bytes : List ℕ) (opened : Outcome) → MeansKey name later (Ok l) → get later source ≡ Some bytes → get later copy ≡ None → length document ≤ 2 ^ 26 →
+        IsBox l.lanes name number document bytes → MeansOpen name source copy later opened ↔ (opened ≡ done (Put copy document ∷ []) (open_text name number (length document))) }
+{}
+
+/// What was sealed opens to the same bytes: after a seal that was done, on any later shelf that holds the bytes which the
+/// seal put, under any name, where another name is free and recovery gives the same lanes, opening means exactly that the
+/// document that was sealed is put under that name, with its number and length in the text.
+pub fn what_was_sealed_is_opened()
+    ensures { (name doc target source copy : List ℕ) (before later : Held) (sealed opened : Outcome) (now : Now) (document : List ℕ) (k l : Recovered) →
+        MeansSeal name doc target before sealed → sealed.status ≡ Done → now_of name before ≡ Ok now → get before doc ≡ Some document → MeansKey name before (Ok k) →
+        get later source ≡ get (after sealed.changes before) target → get later copy ≡ None → MeansKey name later (Ok l) → l.lanes ≡ k.lanes →
+        MeansOpen name source copy later opened ↔ (opened ≡ done (Put copy document ∷ []) (open_text name now.next_number (length document))) }
+{}
+
+/// The same where, on the later shelf, N - T valid share files lie on polynomials whose values at 0 are the key under
+/// which it was sealed, whatever the other files are.
+pub fn honest_files_open_what_was_sealed()
+    ensures { (name doc target source copy : List ℕ) (before later : Held) (sealed opened : Outcome) (now on : Now) (document : List ℕ) (k : Recovered) (polys : List Polynomial) →
+        MeansSeal name doc target before sealed → sealed.status ≡ Done → now_of name before ≡ Ok now → get before doc ≡ Some document → MeansKey name before (Ok k) →
+        get later source ≡ get (after sealed.changes before) target → get later copy ≡ None → now_of name later ≡ Ok on → EnoughLieOn on.n on.t (files_of on later) polys → key_of polys ≡ k.lanes →
+        MeansOpen name source copy later opened ↔ (opened ≡ done (Put copy document ∷ []) (open_text name now.next_number (length document))) }
 {}

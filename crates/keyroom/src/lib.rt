@@ -1,24 +1,33 @@
 //! Keys of documents on a shelf: the words of a command, what is printed, the statuses, and the commands that need no
-//! other member at work: recovery of a key and the check of its files.
+//! other member at work: recovery of a key, the check of its files, and sealing and opening a document.
 #![tactic(auto)]
 
 mod check;
 mod command;
 mod decoding;
 mod laws;
+mod open;
 mod plan;
 mod recover;
+mod seal;
 mod state;
 mod status;
 mod steps;
 mod text;
+mod work;
 
 pub use check::{Checked, check_key, plan_check};
 pub use command::{Command, read_words};
-pub use laws::{honest_files_give_the_key, one_check, one_recovery};
+pub use laws::{
+    a_box_is_opened, honest_files_give_the_key, honest_files_open_what_was_sealed, one_check,
+    one_opening, one_recovery, one_sealing, what_was_sealed_is_opened,
+};
+pub use open::{open_doc, plan_open};
 pub use plan::{Change, Plan, carry_out, make_all};
 pub use recover::{Recovered, plan_recover, recover_key};
+pub use seal::{plan_seal, seal_doc};
 pub use state::{MemberState, StateList};
 pub use status::{Status, What};
 pub use steps::check_free;
 pub use text::{create_text, now_name, share_name};
+pub use work::Sealed;

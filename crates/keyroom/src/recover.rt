@@ -52,7 +52,11 @@ fn recovered_by(
 }
 
 /// The key that these files hold.
-fn recovered_from(alloc: Global, now: &NowFile, files: &[Found]) -> Result<Recovered, Status>
+pub(crate) fn recovered_from(
+    alloc: Global,
+    now: &NowFile,
+    files: &[Found],
+) -> Result<Recovered, Status>
     requires { length files.now ≡ now.now.n }
     ensures means { Answers (MeansKeyOf now.now files.now) result }
     ensures cause { IfErr result (λ s. (before now : ℕ) → IsFromPlan before now s) }

@@ -2,6 +2,7 @@
 ghost use Rattle.std.specs.Prelude.{◌≡◌, ◌++◌, IfOk, string_bytes, codes};
 ghost use Rattle.keyroom.specs.StatusLines.{code_of, what_text, status_line};
 
+use docvault::BoxFault;
 use field61::OutOfMemory;
 use sharefile::FileFault;
 use shelf::OutsideFault;
@@ -12,6 +13,10 @@ use std::alloc::{AllocError, AllocFailed, Global};
 pub enum What {
     /// The key's now file.
     Now,
+    /// The document to seal.
+    Document,
+    /// The box to open.
+    Box,
 }
 
 /// The answer of a command. Each but `Done` is a refusal with a number and a line of its own.
@@ -27,6 +32,10 @@ pub enum Status {
     Exists,
     /// The files have no nearest polynomial in this lane, the least such lane.
     NoKey { lane: u32 },
+    /// The bytes are no box of this key, the first fault that holds of them.
+    BadBox { fault: BoxFault },
+    /// The number that would be raised is the last one, 4294967295.
+    Full { number: u32 },
     /// The shelf failed, and its count of faults rose.
     ShelfFault,
     /// The source of seeds failed, and its count of faults rose.
@@ -37,6 +46,8 @@ pub enum Status {
     OutOfMemory,
     /// The now file's bytes are no now file of this name.
     BadNow { fault: FileFault },
+    /// The document has more than 2^26 bytes: so many.
+    TooLong { length: u64 },
 }
 
 impl From<AllocError> for Status {
@@ -77,6 +88,8 @@ fn no_such_line(alloc: Global, what: What) -> Result<String, OutOfMemory>
 {
     match what {
         What::Now => Ok(format!(in alloc; "refused 3 nosuch now")?),
+        What::Document => Ok(format!(in alloc; "refused 3 nosuch document")?),
+        What::Box => Ok(format!(in alloc; "refused 3 nosuch box")?),
     }
 }
 
@@ -91,11 +104,14 @@ impl Status {
             Status::NoSuch { .. } => 3,
             Status::Exists => 4,
             Status::NoKey { .. } => 6,
+            Status::BadBox { .. } => 7,
+            Status::Full { .. } => 8,
             Status::ShelfFault => 10,
             Status::EntropyFault => 11,
             Status::SinkFault => 13,
             Status::OutOfMemory => 14,
             Status::BadNow { .. } => 15,
+            Status::TooLong { .. } => 16,
         }
     }
 
@@ -109,6 +125,11 @@ impl Status {
             Status::NoSuch { what } => no_such_line(alloc, *what),
             Status::Exists => Ok(format!(in alloc; "refused 4 exists")?),
             Status::NoKey { lane } => Ok(format!(in alloc; "refused 6 lane {lane}")?),
+            Status::BadBox { fault } => {
+                let number = fault.number();
+                Ok(format!(in alloc; "refused 7 box {number}")?)
+            }
+            Status::Full { number } => Ok(format!(in alloc; "refused 8 full {number}")?),
             Status::ShelfFault => Ok(format!(in alloc; "refused 10 shelf")?),
             Status::EntropyFault => Ok(format!(in alloc; "refused 11 entropy")?),
             Status::SinkFault => Ok(format!(in alloc; "refused 13 sink")?),
@@ -117,6 +138,7 @@ impl Status {
                 let number = fault.number();
                 Ok(format!(in alloc; "refused 15 now {number}")?)
             }
+            Status::TooLong { length } => Ok(format!(in alloc; "refused 16 length {length}")?),
         }
     }
 

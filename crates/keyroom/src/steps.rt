@@ -5,7 +5,7 @@ ghost use Rattle.std.specs.FinMap as map;
 ghost use Rattle.shelf.specs.Causes.{OnlyReads};
 ghost use Rattle.sharefile.specs.Reading.{now_at, share_at};
 ghost use Rattle.keyroom.specs.Outcome.{Gives, IsFromShelf, IsFromPlan};
-ghost use Rattle.keyroom.specs.Steps.{now_named, now_of, free_of, is_asked, share_asked, share_of, files_of};
+ghost use Rattle.keyroom.specs.Steps.{now_named, now_of, free_of, bytes_of, is_asked, share_asked, share_of, files_of};
 
 use crate::status::{Status, What};
 use crate::text;
@@ -76,6 +76,23 @@ pub fn check_free<H: Shelf>(alloc: Global, name: &str, shelf: &mut H) -> Result<
     match get(alloc, name, shelf)? {
         None => Ok(()),
         Some(_) => Err(Status::Exists),
+    }
+}
+
+/// The bytes of a document or a box. It refuses with `NoSuch` where the name isn't held.
+pub(crate) fn bytes_of<H: Shelf>(
+    alloc: Global,
+    what: What,
+    name: &str,
+    shelf: &mut H,
+) -> Result<Vec<u8>, Status>
+    ensures reads { OnlyReads H.held H.fault_count H.calm shelf.old shelf.new }
+    ensures gives { IfSome (H.held shelf.old) (λ m. Gives (λ bytes. bytes.items) result (bytes_of what name.now m)) }
+    ensures cause { IfErr result (IsFromPlan (H.fault_count shelf.old) (H.fault_count shelf.new)) }
+{
+    match get(alloc, name, shelf)? {
+        None => Err(Status::NoSuch { what }),
+        Some(bytes) => Ok(bytes),
     }
 }
 

@@ -2,11 +2,12 @@
 ghost use Rattle.std.specs.Prelude.{◌≡◌, ◌≤◌, ◌++◌, length, OnOk, IfOk, string_bytes, codes, decimal};
 ghost use Rattle.std.specs.List.{flat_map};
 ghost use Rattle.keyroom.specs.Names.{now_name, share_name};
-ghost use Rattle.keyroom.specs.Texts.{member_lines, hex_text, recover_text, check_text, round_lines, shares_line, create_text};
+ghost use Rattle.keyroom.specs.Texts.{member_lines, hex_text, recover_text, check_text, round_lines, shares_line, create_text, seal_text, open_text};
 
 use crate::check::Checked;
 use crate::recover::Recovered;
 use crate::state::StateList;
+use crate::work::Sealed;
 use docvault::fingerprint;
 use field61::{NumberList, OutOfMemory};
 use sharefile::{KeyName, NowFile};
@@ -140,5 +141,35 @@ pub fn create_text(
     put_rounds(&mut text, masks)?;
     writeln!(text, "accepted {accepted} of {instances}")?;
     put_shares(&mut text, indexes)?;
+    Ok(text)
+}
+
+/// The text of `seal`.
+pub(crate) fn seal_text(
+    alloc: Global,
+    name: &KeyName,
+    sealed: &Sealed,
+) -> Result<String, OutOfMemory>
+    ensures { IfOk result (λ s. string_bytes s ≡ seal_text name.now sealed.now.number sealed.now.bytes) }
+{
+    let number = sealed.number;
+    let bytes = sealed.bytes;
+    let mut text = String::new(alloc);
+    writeln!(text, "seal {name} number {number} bytes {bytes}")?;
+    Ok(text)
+}
+
+/// The text of `open`.
+pub(crate) fn open_text(
+    alloc: Global,
+    name: &KeyName,
+    sealed: &Sealed,
+) -> Result<String, OutOfMemory>
+    ensures { IfOk result (λ s. string_bytes s ≡ open_text name.now sealed.now.number sealed.now.bytes) }
+{
+    let number = sealed.number;
+    let bytes = sealed.bytes;
+    let mut text = String::new(alloc);
+    writeln!(text, "open {name} number {number} bytes {bytes}")?;
     Ok(text)
 }
