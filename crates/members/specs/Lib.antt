@@ -1,0 +1,4 @@
+pub mod Member
+pub mod Shares
+pub mod Transcripts
+pub mod Laws

@@ -1,0 +1,17 @@
+//! Laws on members and plays. Each function's contract is a law, and its body is empty.
+
+ghost use Rattle.members.specs.Laws.{DoneIsPlay, PlainShares};
+
+/// Where nobody is down, the created share of receiver j in a lane is the sum over all dealers of the value of the
+/// dealer's grid at 0 and j.
+#[tactic(auto, using(crate::proofs::Sums::plain_shares))]
+pub fn plain_shares_where_nobody_is_down()
+    ensures { PlainShares }
+{}
+
+/// A member that has come to the end which a play defines for its receiver has the play's created shares, and counts
+/// the play's accepted instances.
+#[tactic(auto, using(crate::proofs::Sums::done_is_play))]
+pub fn members_have_the_shares_of_their_play()
+    ensures { DoneIsPlay }
+{}
