@@ -1,6 +1,5 @@
 -- Minds that go like members: in a run of the sharing they go by the rules, and end as the play defines.
-use Rattle.std.proofs.Common.{◌≡◌, ℕ, zero, suc, ◌+◌, ◌-◌, ◌<◌, ◌≤◌, Bool, true, false, List, [], ◌∷◌, length, take, get_or, map, refl, sym, ap, ap₂, ◌∙◌, subst, arith}
-use Rattle.std.specs.List.{range_with_len}
+use Rattle.std.proofs.Common.{◌≡◌, ℕ, zero, suc, ◌+◌, ◌-◌, ◌<◌, ◌≤◌, Bool, true, false, List, [], ◌∷◌, length, take, get_or, refl, sym, ap, ap₂, ◌∙◌, subst, arith}
 use Rattle.std.proofs.lemmas.List.{take_all, length-map}
 use Rattle.std.proofs.lemmas.List.FromFn.{get_or-map-range_with_len}
 use Rattle.std.proofs.lemmas.Nat.Bits.{bit_at_ones}
@@ -9,8 +8,6 @@ use Rattle.algebra61.specs.Field.{Fp, fe}
 use Rattle.algebra61.specs.Poly.{eval}
 use Rattle.algebra61.specs.Grid.{Degree}
 use Rattle.sharing61.specs.Count.{how_many}
-use Rattle.talk.specs.declared.messages.Post.{Post}
-use Rattle.talk.specs.declared.messages.Ring.{Ring}
 use Rattle.talk.specs.declared.messages.Ring.TheVariants.{Nothing}
 use Rattle.talk.specs.declared.messages.Say.{Say}
 use Rattle.talk.specs.declared.messages.Say.TheVariants.{Pass}
@@ -21,14 +18,15 @@ use Rattle.talk.specs.Follow.{Nth}
 use Rattle.talk.proofs.Sync.{length-after_hears, length-after_words}
 use Rattle.plays.specs.Play.{Play, seat_of, created_share}
 use Rattle.plays.specs.Law.{ProperPlay, SoundIn}
-use Rattle.plays.specs.Stage.{Stage, AtReady, AtDealt, AtCrossed, AtComplained, AtRevealed, AtDone, Speaks, stage_after, stage_post, stage_ring, receiver_at}
+use Rattle.plays.specs.Stage.{Stage, Speaks, stage_ring, receiver_at}
 use Rattle.plays.specs.Run.{Transcript, heard_in, play_of, stage_in, HonestSeat, ByTheRules, done_stage}
 use Rattle.plays.proofs.Rounds.{run_is_play, run_is_proper}
 use Rattle.plays.proofs.Lanes.{created_line}
-use Rattle.members.specs.Member.{Member, member_at, rings_said, member_word, member_after_hear, member_ways}
+use Rattle.members.specs.Member.{Member, member_at, member_word, member_after_hear, member_ways}
 use Rattle.members.specs.Transcripts.{transcript_of}
-use Rattle.members.specs.Laws.{DoneAs, HasShares}
+use Rattle.members.specs.Laws.{DoneAs, HasShares, FiveRounds, MembersEnd}
 use Rattle.members.proofs.Sums.{done_is_play}
+use Rattle.members.proofs.Turns.{speaks_next}
 
 -- ---- what is asked of minds
 module _ {M : Type 0} where
@@ -124,14 +122,6 @@ all_have : (s : Shape) (seat : ℕ) → 1 ≤ seat → seat ≤ seats s → has 
 all_have s seat from to = ap (λ (b : ℕ). eqb b 1) (bit_at_ones (seats s) (seat - 1) (omega (arith, from, to)))
 
 -- ---- the stages speak in turn
-speaks_next : (s : Shape) (me : ℕ) (own : List (List (List Fp))) (h : Heard) (stage : Stage) (round : ℕ) → Speaks round stage → round < 5 → Speaks (round + 1) (stage_after s me own h stage)
-speaks_next s me own h AtReady round e lt = omega (arith, e)
-speaks_next s me own h (AtDealt ps) round e lt = omega (arith, e)
-speaks_next s me own h (AtCrossed ps cs) round e lt = omega (arith, e)
-speaks_next s me own h (AtComplained ps third) round e lt = omega (arith, e)
-speaks_next s me own h (AtRevealed ps fourth votes) round e lt = absurd (omega (arith, e, lt))
-speaks_next s me own h (AtDone ps acc) round e lt = absurd e
-
 pub speaks_in : (t : Transcript) (own : List (List (List Fp))) (seat k : ℕ) → k < 5 → Speaks (suc k) (stage_in t own seat k)
 speaks_in t own seat zero lt = refl
 speaks_in t own seat (suc k) lt =
@@ -172,13 +162,13 @@ module _ {M : Type 0} where
       let speaks : Speaks (suc k) c.stage = speaks_in (transcript_of w s masks ms) (own seat) seat k lt in
       let said : w.word st.mind (suc k) ≡ member_word c (suc k) = b.goes.same_word st.mind c (suc k) speaks st.same in
       let may : Allowed (mask_before (all_seats s) masks k) mask 1 words =
-          subst (λ (n : ℕ). Allowed (mask_before (all_seats s) masks k) mask 1 (words_of w n now)) r (allowed_at w s 1 (all_seats s) k masks ms b.allowed in_time) in
+      subst (λ (n : ℕ). Allowed (mask_before (all_seats s) masks k) mask 1 (words_of w n now)) r (allowed_at w s 1 (all_seats s) k masks ms b.allowed in_time) in
       let one : MaySay (has (mask_before (all_seats s) masks k) seat) (has mask seat) (w.word st.mind (suc k)) =
-          subst (λ (n : ℕ). MaySay (has (mask_before (all_seats s) masks k) n) (has mask n) (w.word st.mind (suc k))) f (allowed_nth w (mask_before (all_seats s) masks k) mask 1 (suc k) (seat - 1) st.mind now st.place may) in
+      subst (λ (n : ℕ). MaySay (has (mask_before (all_seats s) masks k) n) (has mask n) (w.word st.mind (suc k))) f (allowed_nth w (mask_before (all_seats s) masks k) mask 1 (suc k) (seat - 1) st.mind now st.place may) in
       let kept : has mask seat ≡ has (mask_before (all_seats s) masks k) seat =
-          subst (λ (v : Say). MaySay (has (mask_before (all_seats s) masks k) seat) (has mask seat) v) said one in
+      subst (λ (v : Say). MaySay (has (mask_before (all_seats s) masks k) seat) (has mask seat) v) said one in
       let rounds_on : after_round w s (suc k) mask now ≡ sync w s 1 (take (suc k) masks) ms =
-          sym (sync_take w s 1 k masks ms in_time ∙ ap (λ (n : ℕ). after_round w s n mask now) r) in
+      sym (sync_take w s 1 k masks ms in_time ∙ ap (λ (n : ℕ). after_round w s n mask now) r) in
       record {
         mind = w.after_hear (w.after_say st.mind (suc k)) (suc k) (heard_at s (suc k) mask words (1 + (seat - 1)));
         place = subst (λ (l : List M). Nth (seat - 1) (w.after_hear (w.after_say st.mind (suc k)) (suc k) (heard_at s (suc k) mask words (1 + (seat - 1)))) l) rounds_on
@@ -284,3 +274,21 @@ module _ {M : Type 0} where
       how_many s.receivers (λ j. down (seat_of s j)) ≤ s.bound → (l : ℕ) → l < 5 →
       (f : List Fp) × (length f ≤ s.degree + 1) × ((j : ℕ) → SoundIn (run_play w s masks ms down own) j → created_share (run_play w s masks ms down own) l j ≡ eval f (fe j))
   one_line w is s masks ms down own b few l l5 = created_line (run_play w s masks ms down own) l (proper w is s masks ms down own b few) l5
+
+-- ---- members themselves
+members_begin : (s : Shape) (masks : List ℕ) (ms : List Member) (down : ℕ → Bool) (own : ℕ → List (List (List Fp))) → FiveRounds s masks ms down own →
+    Begins member_ways (λ (m c : Member). m ≡ c) s masks ms down own
+members_begin s masks ms down own f = record {
+  goes = members_go;
+  setting = f.setting;
+  rounds = omega (arith, f.rounds);
+  allowed = f.allowed;
+  seated = f.seated;
+  degrees = f.degrees;
+  fresh = λ seat honest. (member_at s seat (own seat), f.fresh seat honest, refl);
+}
+
+pub members_end : MembersEnd
+members_end s masks ms down own f j sound =
+    let end = ends_done member_ways (λ (m c : Member). m ≡ c) s masks ms down own (members_begin s masks ms down own f) f.rounds j sound in
+    subst (λ (m : Member). Nth (seat_of s j - 1) m (sync member_ways s 1 masks ms)) end.2 end.1

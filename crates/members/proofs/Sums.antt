@@ -1,12 +1,13 @@
 -- Shares of members and of plays.
-use Rattle.std.proofs.Common.{◌≡◌, ℕ, zero, suc, ◌+◌, ◌*◌, ◌<◌, ◌≤◌, Bool, true, false, cond, List, [], ◌∷◌, map, refl, sym, ap, ap₂, ◌∙◌, arith}
+use Rattle.std.proofs.Common.{◌≡◌, ℕ, zero, suc, ◌+◌, ◌*◌, ◌<◌, ◌≤◌, Bool, false, cond, ◌∷◌, map, refl, sym, ap, ap₂, ◌∙◌, arith}
 use Rattle.std.specs.List.{count_by, range_with_len}
 use Rattle.std.proofs.lemmas.List.FromFn.{get_or-map-range_with_len}
+use Rattle.std.proofs.lemmas.List.Sums.{sum_by-cons}
 use Rattle.algebra61.specs.Field.{Fp, zeroₚ, fe, ◌+ₚ◌}
 use Rattle.algebra61.specs.Poly.{eval}
 use Rattle.algebra61.specs.Grid.{row, grid_at}
 use Rattle.bivar61.specs.Sums.{sum_below}
-use Rattle.sharing61.specs.Rules.{Pair, pair_on, zero_pair}
+use Rattle.sharing61.specs.Rules.{Pair, zero_pair}
 use Rattle.sharing61.specs.Instance.{Honest, kept, accepted, share}
 use Rattle.sharing61.specs.Agreement.{Sound}
 use Rattle.sharing61.proofs.Values.{eval-poly}
@@ -18,9 +19,8 @@ use Rattle.plays.specs.Run.{done_stage}
 use Rattle.plays.specs.Said.{places}
 use Rattle.plays.specs.Seat.{pair_at}
 use Rattle.plays.specs.Stage.{Stage}
-use Rattle.members.specs.Member.{Member}
-use Rattle.members.specs.Shares.{share_sum, kept_in, member_share, member_shares, accepted_in, accepted_count}
-use Rattle.members.specs.Laws.{NobodyDown, PlainShares, DoneAs, HasShares, DoneIsPlay}
+use Rattle.members.specs.Shares.{share_sum, kept_in, member_share, accepted_in}
+use Rattle.members.specs.Laws.{NobodyDown, PlainShares, DoneIsPlay}
 
 -- ---- the shares of one who is done
 kept_place : (p : Play) (i j : ℕ) → i < instances p.shape → pair_at (map (λ k. kept (instance_of p k) j) (places (instances p.shape))) i ≡ kept (instance_of p i) j
@@ -34,7 +34,10 @@ sum_is p l j (suc n) l5 le =
 
 count_map : (f : ℕ → Bool) (n a : ℕ) → count_by (λ b. b) (map f (range_with_len a n)) ≡ count_by f (range_with_len a n)
 count_map f zero a = refl
-count_map f (suc n) a = ap (λ k. cond (f a) 1 0 + k) (count_map f n (a + 1))
+count_map f (suc n) a =
+    sum_by-cons (λ (b : Bool). cond b 1 0) (f a) (map f (range_with_len (a + 1) n))
+    ∙ ap (λ (k : ℕ). cond (f a) 1 0 + k) (count_map f n (a + 1))
+    ∙ sym (sum_by-cons (λ (i : ℕ). cond (f i) 1 0) a (range_with_len (a + 1) n))
 
 share_is : (p : Play) (l j n : ℕ) (stage : Stage) → l < 5 → n ≡ p.shape.dealers → stage ≡ done_stage p j → share_sum n (kept_in stage) l ≡ created_share p l j
 share_is p l j n stage l5 en es =
@@ -47,7 +50,7 @@ five_same f g (suc n) a h = ap₂ (λ x xs. x ∷ xs) (h a (omega arith)) (five_
 pub done_is_play : DoneIsPlay
 done_is_play p j m d =
     let each : (l : ℕ) → l < 5 → member_share m l ≡ created_share p l j =
-        λ l l5. share_is p l j m.shape.dealers m.stage l5 (ap (λ s. s.dealers) d.shape) d.stage in
+    λ l l5. share_is p l j m.shape.dealers m.stage l5 (ap (λ s. s.dealers) d.shape) d.stage in
     record {
       share = each;
       shares = five_same (member_share m) (λ l. created_share p l j) 5 0 (λ l lt. each l (omega (arith, lt)));
@@ -67,7 +70,7 @@ plain_share : (p : Play) (i j : ℕ) → ProperPlay p → NobodyDown p → i < i
     share (instance_of p i) j ≡ grid_at (p.grid i) zeroₚ (fe j)
 plain_share p i j proper up lt from to =
     let end = honest_dealer p.shape.degree (instance_of p i) (p.grid i)
-        (honest_at p i (up.dealers (dealer_of i) (omega arith) (omega (arith, lt)))) (proper i lt) in
+    (honest_at p i (up.dealers (dealer_of i) (omega arith) (omega (arith, lt)))) (proper i lt) in
     ap (λ (q : Pair). eval q.row.coeffs zeroₚ) (end.own j (sound_at p i j from to (up.receivers j from to)))
     ∙ eval-poly (row (p.grid i) (fe j)) zeroₚ
 

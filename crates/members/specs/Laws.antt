@@ -1,13 +1,17 @@
 -- What holds of the shares that members have in the end.
-use Rattle.std.specs.Prelude.{◌≡◌, ℕ, ◌+◌, ◌*◌, ◌<◌, ◌≤◌, false, map}
-use Rattle.algebra61.specs.Field.{zeroₚ, fe}
-use Rattle.algebra61.specs.Grid.{grid_at}
+use Rattle.std.specs.Prelude.{◌≡◌, ℕ, ◌+◌, ◌-◌, ◌*◌, ◌<◌, ◌≤◌, Bool, false, List, [], length, get_or, map}
+use Rattle.algebra61.specs.Field.{Fp, zeroₚ, fe}
+use Rattle.algebra61.specs.Grid.{Degree, grid_at}
 use Rattle.bivar61.specs.Sums.{sum_below}
+use Rattle.talk.specs.Shape.{Shape, Lawful, seats}
+use Rattle.talk.specs.Sync.{AllAllowed, all_seats, sync}
+use Rattle.talk.specs.Follow.{Nth}
 use Rattle.plays.specs.Play.{Play, seat_of, created_share}
-use Rattle.plays.specs.Law.{ProperPlay}
-use Rattle.plays.specs.Run.{done_stage}
+use Rattle.plays.specs.Law.{ProperPlay, SoundIn}
+use Rattle.plays.specs.Run.{HonestSeat, play_of, done_stage}
 use Rattle.plays.specs.Said.{places}
-use Rattle.members.specs.Member.{Member}
+use Rattle.members.specs.Member.{Member, member_at, member_ways}
+use Rattle.members.specs.Transcripts.{transcript_of}
 use Rattle.members.specs.Shares.{member_share, member_shares, accepted_in, accepted_count}
 
 -- no dealer's seat and no receiver's is down
@@ -34,3 +38,21 @@ pub record HasShares (p : Play) (j : ℕ) (m : Member) : Type 0 where
 
 abbrev pub DoneIsPlay : Type 0
 DoneIsPlay = (p : Play) (j : ℕ) (m : Member) → DoneAs p j m → HasShares p j m
+
+-- five rounds over members: those on the honest seats begin with their own grids, all of the setting's degree, and the
+-- masks are ones that the words allow
+pub record FiveRounds (s : Shape) (masks : List ℕ) (ms : List Member) (down : ℕ → Bool) (own : ℕ → List (List (List Fp))) : Type 0 where
+  pub setting : Lawful s
+  pub rounds : length masks ≡ 5
+  pub allowed : AllAllowed member_ways s 1 (all_seats s) masks ms
+  pub seated : length ms ≡ seats s
+  pub degrees : (seat l : ℕ) → down seat ≡ false → Degree s.degree (get_or (own seat) l [])
+  pub fresh : (seat : ℕ) → HonestSeat s down seat → Nth (seat - 1) (member_at s seat (own seat)) ms
+
+-- then the member of each honest receiver ends as the play of the run defines
+abbrev pub MembersEnd : Type 0
+MembersEnd =
+    (s : Shape) (masks : List ℕ) (ms : List Member) (down : ℕ → Bool) (own : ℕ → List (List (List Fp))) → FiveRounds s masks ms down own →
+    (j : ℕ) → SoundIn (play_of (transcript_of member_ways s masks ms) down own) j →
+    Nth (seat_of s j - 1) (record { shape = s; seat = seat_of s j; grids = own (seat_of s j); stage = done_stage (play_of (transcript_of member_ways s masks ms) down own) j })
+    (sync member_ways s 1 masks ms)

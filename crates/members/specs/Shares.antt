@@ -5,8 +5,6 @@ use Rattle.algebra61.specs.Field.{Fp, zeroₚ, ◌+ₚ◌}
 use Rattle.algebra61.specs.Poly.{eval}
 use Rattle.sharing61.specs.Rules.{Pair}
 use Rattle.sharing61.specs.Instance.{accepted}
-use Rattle.talk.specs.declared.messages.Complaint.{Complaint}
-use Rattle.talk.specs.declared.messages.Post.{Post}
 use Rattle.talk.specs.Shape.{instances}
 use Rattle.plays.specs.Play.{Play, instance_of}
 use Rattle.plays.specs.Said.{places}

