@@ -1,5 +1,5 @@
 -- What holds of the shares that members have in the end.
-use Rattle.std.specs.Prelude.{◌≡◌, ℕ, ◌+◌, ◌-◌, ◌*◌, ◌<◌, ◌≤◌, Bool, false, List, [], length, get_or, map}
+use Rattle.std.specs.Prelude.{◌≡◌, ℕ, ◌+◌, ◌-◌, ◌*◌, ◌<◌, ◌≤◌, Bool, false, List, [], length, get_or, map, All}
 use Rattle.algebra61.specs.Field.{Fp, zeroₚ, fe}
 use Rattle.algebra61.specs.Grid.{Degree, grid_at}
 use Rattle.bivar61.specs.Sums.{sum_below}
@@ -8,11 +8,12 @@ use Rattle.talk.specs.Sync.{AllAllowed, all_seats, sync}
 use Rattle.talk.specs.Follow.{Nth}
 use Rattle.plays.specs.Play.{Play, seat_of, created_share}
 use Rattle.plays.specs.Law.{ProperPlay, SoundIn}
+use Rattle.plays.specs.Stage.{AtReady}
 use Rattle.plays.specs.Run.{HonestSeat, play_of, done_stage}
 use Rattle.plays.specs.Said.{places}
 use Rattle.members.specs.Member.{Member, member_at, member_ways}
 use Rattle.members.specs.Transcripts.{transcript_of}
-use Rattle.members.specs.Shares.{member_share, member_shares, accepted_in, accepted_count}
+use Rattle.members.specs.Shares.{IsDone, member_share, member_shares, accepted_in, accepted_count}
 
 -- no dealer's seat and no receiver's is down
 pub record NobodyDown (p : Play) : Type 0 where
@@ -56,3 +57,9 @@ MembersEnd =
     (j : ℕ) → SoundIn (play_of (transcript_of member_ways s masks ms) down own) j →
     Nth (seat_of s j - 1) (record { shape = s; seat = seat_of s j; grids = own (seat_of s j); stage = done_stage (play_of (transcript_of member_ways s masks ms) down own) j })
     (sync member_ways s 1 masks ms)
+
+-- after five rounds every member is done, whatever the masks are
+abbrev pub AreDone : Type 0
+AreDone =
+    (s : Shape) (masks : List ℕ) (ms : List Member) → length masks ≡ 5 → All (λ (m : Member). m.stage ≡ AtReady) ms →
+    All (λ (m : Member). IsDone m.stage) (sync member_ways s 1 masks ms)

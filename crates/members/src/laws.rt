@@ -1,6 +1,6 @@
 //! Laws on members and plays. Each function's contract is a law, and its body is empty.
 
-ghost use Rattle.members.specs.Laws.{DoneIsPlay, MembersEnd, PlainShares};
+ghost use Rattle.members.specs.Laws.{AreDone, DoneIsPlay, MembersEnd, PlainShares};
 
 /// Where nobody is down, the created share of receiver j in a lane is the sum over all dealers of the value of the
 /// dealer's grid at 0 and j.
@@ -19,4 +19,10 @@ pub fn members_have_the_shares_of_their_play()
 /// with any, the member of each honest receiver comes to the end that the run's play defines.
 pub fn members_end_as_their_play()
     ensures { MembersEnd }
+{}
+
+/// After five rounds every member is done, whatever the masks are.
+#[tactic(auto, using(crate::proofs::Done::are_done))]
+pub fn members_are_done_after_five_rounds()
+    ensures { AreDone }
 {}
