@@ -1,15 +1,15 @@
 -- What every member's mind owes: the stages speak in turn, and a word has a message for each seat.
-use Rattle.std.proofs.Common.{◌≡◌, ℕ, ◌+◌, ◌-◌, ◌<◌, ◌≤◌, Bool, true, false, ◌&&◌, not, cond, eqb, List, refl, ◌∙◌, arith}
+use Rattle.std.proofs.Common.{◌≡◌, ℕ, ◌+◌, ◌-◌, ◌<◌, ◌≤◌, Bool, true, false, ◌&&◌, not, cond, eqb, List, refl, ap, ◌∙◌, arith}
 use Rattle.std.proofs.lemmas.Bool.{eq-eqb}
 use Rattle.std.proofs.lemmas.List.FromFn.{get_or-map-range_with_len, length-map-range_with_len}
 use Rattle.algebra61.specs.Field.{Fp}
 use Rattle.talk.specs.declared.messages.Ring.{Ring}
 use Rattle.talk.specs.declared.messages.Ring.TheVariants.{Nothing}
 use Rattle.talk.specs.declared.messages.Heard.{Heard}
-use Rattle.talk.specs.Shape.{Shape, seats, deals, receives}
+use Rattle.talk.specs.Shape.{Shape, seats, rounds, deals, receives}
 use Rattle.talk.specs.Hears.{OneEach, WordFits}
-use Rattle.plays.specs.Stage.{Stage, AtReady, AtDealt, AtCrossed, AtComplained, AtRevealed, AtDone, Speaks, stage_after, stage_ring}
-use Rattle.members.specs.Member.{Member, rings_said, member_word}
+use Rattle.plays.specs.Stage.{Stage, AtReady, AtDealt, AtCrossed, AtComplained, AtRevealed, AtDone, Speaks, stage_after, stage_ring, receiver_at}
+use Rattle.members.specs.Member.{Member, rings_said, member_word, member_after_hear}
 
 -- after hearing a round before the fifth, a seat speaks the next one
 pub speaks_next : (s : Shape) (me : ℕ) (own : List (List (List Fp))) (h : Heard) (stage : Stage) (round : ℕ) → Speaks round stage → round < 5 → Speaks (round + 1) (stage_after s me own h stage)
@@ -44,3 +44,11 @@ one_each s seat own stage from to = record {
 -- a member's word has a message for each seat
 pub word_fits : (m : Member) (round : ℕ) → 1 ≤ m.seat → m.seat ≤ seats m.shape → WordFits m.shape m.seat (member_word m round)
 word_fits m round from to = one_each m.shape m.seat m.grids m.stage from to
+
+five_rounds : (s : Shape) → s.checks ≡ 0 → rounds s ≡ 5
+five_rounds s e = ap (λ (n : ℕ). cond (eqb n 0) 5 6) e
+
+-- in a setting of five rounds, a member that hears a round which isn't the last speaks the next
+pub says_after : (m : Member) (round : ℕ) (h : Heard) (s : Shape) → s.checks ≡ 0 → Speaks round m.stage → round < rounds s → Speaks (round + 1) (member_after_hear m round h).stage
+says_after m round h s e speaks less =
+    speaks_next m.shape (receiver_at m.shape m.seat) m.grids h m.stage round speaks (omega (arith, less, five_rounds s e))

@@ -1,0 +1,170 @@
+//! A member's mind.
+
+ghost use Rattle.std.specs.Prelude.{◌≡◌, ℕ, ◌+◌, ◌-◌, ◌*◌, ◌<◌, ◌≤◌, List, IfOk, OnOk, OnErr};
+ghost use Rattle.talk.specs.Shape.{Shape, seats};
+ghost use Rattle.talk.specs.Hears.{Kept, WordFits};
+ghost use Rattle.plays.specs.Stage.{Speaks};
+ghost use Rattle.vss_core.specs.States.{FiveGrids};
+ghost use Rattle.chance61.specs.Draws.{five_grids_drawn};
+ghost use Rattle.members.specs.Member.{member_at, member_word, member_after_say, member_after_hear};
+ghost use Rattle.members.specs.Shares.{IsDone, member_shares, accepted_in};
+ghost use Rattle.members.proofs.Turns.{says_after};
+ghost use Rattle.jointkey.specs.Create.{MadeFor, create_shape};
+
+use crate::says::{post_of, rings_of};
+use crate::steps::{At, next};
+use crate::sums::{accepted_of, lane_shares};
+use bivar61::GridList;
+use chance61::Chance;
+use field61::{Fe, OutOfMemory};
+use std::alloc::Global;
+use std::marker::Model;
+use talk::{Heard, Mind, Say, Setting};
+use vss_core::{Dealer, Ready};
+
+/// A member's mind in the creation of a key by `N` members. Contracts see a member of a sharing: the setting, the seat,
+/// the five grids that it deals, and how far it has come.
+#[derive(Drop)]
+pub struct Create<const N: usize> {
+    me: u32,
+    dealer: Dealer,
+    at: At,
+}
+
+impl<const N: usize> Model for Create<N> {
+    ghost use Rattle.members.specs.Member.{Member};
+    ghost use Rattle.jointkey.specs.View.{view_create, Whole};
+
+    ghost Value = { Member };
+
+    ghost view = { view_create N };
+
+    ghost invariant = { Whole N };
+}
+
+impl<const N: usize> Mind for Create<N> {
+    ghost made_for = { MadeFor };
+
+    ghost may_say = { λ m round. Speaks round m.stage };
+
+    ghost may_hear = { λ m round. Speaks round m.stage };
+
+    ghost word = { member_word };
+
+    ghost after_say = { member_after_say };
+
+    ghost after_hear = { member_after_hear };
+
+    ghost say_keeps = { λ m round may s seat. (λ made. made, λ made. made) };
+
+    ghost hear_keeps = { λ m round h may s seat. (λ made. made, λ made. made) };
+
+    ghost hears_next = { λ m round may. may };
+
+    ghost says_next = { λ m round h s seat may made less. says_after m round h s made.2 may less };
+
+    fn say(&mut self, alloc: Global, round: u32) -> Result<Say, OutOfMemory>
+        ensures word { IfOk result (λ w. w ≡ member_word self.old round) }
+        ensures rings { IfOk result (λ w. (s : Shape) (seat : ℕ) → MadeFor self.old s seat → WordFits s seat w) }
+        ensures after { OnOk result (self.new ≡ self.old) }
+        ensures kept { OnErr result (Kept (MadeFor self.old) (MadeFor self.new)) }
+        ensures same { OnErr result (self.new ≡ self.old) }
+    {
+        let post = post_of(alloc, &self.at)?;
+        let rings = rings_of(alloc, &self.dealer, &self.at, self.me)?;
+        Ok(Say::Speak { post, rings })
+    }
+
+    fn hear(&mut self, alloc: Global, round: u32, heard: Heard) -> Result<(), OutOfMemory> {
+        let at = std::mem::replace(&mut self.at, At::Gone);
+        match next(alloc, at, &self.dealer, &heard) {
+            Ok(at) => {
+                self.at = at;
+                Ok(())
+            }
+            Err(at) => {
+                self.at = at;
+                Err(OutOfMemory)
+            }
+        }
+    }
+}
+
+impl<const N: usize> Create<N> {
+    /// Member `me` of the `N`, of whom `t` may be faulty, with five grids of degree `t` drawn from a source, lane by
+    /// lane. After `OutOfMemory` no word was taken.
+    pub fn new(
+        alloc: Global,
+        t: u32,
+        me: u32,
+        chance: &mut Chance,
+    ) -> Result<Create<N>, OutOfMemory>
+        requires small { N ≤ 15 }
+        requires bound { (1 ≤ t) × (3 * t < N) }
+        requires member { (1 ≤ me) × (me ≤ N) }
+        ensures is { IfOk result (λ m. m ≡ member_at (create_shape N t) me (five_grids_drawn t chance.old.seed chance.old.taken).0) }
+        ensures after { OnOk result (chance.new ≡ record {
+          seed = chance.old.seed;
+          taken = (five_grids_drawn t chance.old.seed chance.old.taken).1;
+        }) }
+        ensures kept { OnErr result (chance.new ≡ chance.old) }
+    {
+        let grids = chance.draw_grids(alloc, t)?;
+        Ok(Create::made(t, me, grids))
+    }
+
+    /// The same with given grids, all of degree `t`, lane by lane.
+    pub fn with_grids(
+        _alloc: Global,
+        t: u32,
+        me: u32,
+        grids: GridList,
+    ) -> Result<Create<N>, OutOfMemory>
+        requires small { N ≤ 15 }
+        requires bound { (1 ≤ t) × (3 * t < N) }
+        requires member { (1 ≤ me) × (me ≤ N) }
+        requires grids { FiveGrids t grids }
+        ensures { IfOk result (λ m. m ≡ member_at (create_shape N t) me grids) }
+    {
+        Ok(Create::made(t, me, grids))
+    }
+
+    // The member before the first round.
+    fn made(t: u32, me: u32, grids: GridList) -> Create<N>
+        requires small { N ≤ 15 }
+        requires bound { (1 ≤ t) × (3 * t < N) }
+        requires member { (1 ≤ me) × (me ≤ N) }
+        requires grids { FiveGrids t grids }
+        ensures { result ≡ member_at (create_shape N t) me grids }
+    {
+        let setting = Setting::create(N as u32, t);
+        Create {
+            me,
+            dealer: Dealer::new(setting, me, grids),
+            at: At::Ready(Ready::new(setting, me)),
+        }
+    }
+
+    /// Its shares in the end, lane by lane: in each the sum over the dealers of the row's value at 0, which is 0 in an
+    /// instance that isn't accepted. All rounds are heard. It takes no memory.
+    pub fn shares(&self) -> [Fe; 5]
+        requires { IsDone self.now.stage }
+        ensures { result ≡ member_shares self.now }
+    {
+        match &self.at {
+            At::Done(done) => lane_shares(done, self.dealer.setting().dealers()),
+            _ => [Fe::ZERO; 5],
+        }
+    }
+
+    /// How many instances are accepted. All rounds are heard. It takes no memory.
+    pub fn accepted(&self) -> u32
+        requires { IsDone self.now.stage }
+        ensures { result ≡ accepted_in self.now.stage }
+    {
+        match &self.at {
+            At::Done(done) => accepted_of(done, self.dealer.setting().instances()),
+            _ => 0,
+        }
+    }
+}
