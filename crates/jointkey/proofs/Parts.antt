@@ -1,11 +1,11 @@
 -- What a seat of a create says, and the grids that it draws.
-use Rattle.std.proofs.Common.{◌≡◌, ℕ, zero, suc, ◌+◌, ◌-◌, ◌≤◌, List, ◌∷◌, [], ◌++◌, length, map, All, refl, sym, ap, ap₂, ◌∙◌, subst, arith}
+use Rattle.std.proofs.Common.{◌≡◌, ℕ, zero, suc, ◌+◌, ◌-◌, ◌≤◌, List, ◌∷◌, [], ◌++◌, length, map, All, refl, sym, ap, ◌∙◌, subst, arith}
 use Rattle.std.proofs.lemmas.List.FromFn.{map-range_with_len_more}
 use Rattle.algebra61.specs.Field.{Fp}
 use Rattle.bivar61.specs.Grids.{IsGrid}
 use Rattle.chance61.specs.Draws.{drawn_in_turn, grid_drawn, five_grids_drawn}
 use Rattle.talk.specs.declared.messages.Ring.{Ring}
-use Rattle.talk.specs.Shape.{Shape, seats}
+use Rattle.talk.specs.Shape.{Shape}
 use Rattle.talk.specs.Hears.{OneEach}
 use Rattle.plays.specs.Said.{points_up_to}
 use Rattle.plays.specs.Stage.{Stage}

@@ -1,7 +1,7 @@
 -- One member's part in the creation of a key.
-use Rattle.std.specs.Prelude.{◌≡◌, ℕ, ◌+◌, ◌≤◌, List}
+use Rattle.std.specs.Prelude.{◌≡◌, ℕ, ◌≤◌}
 use Rattle.talk.specs.declared.messages.Heard.{Heard}
-use Rattle.talk.specs.Shape.{Shape, seats}
+use Rattle.talk.specs.Shape.{Shape}
 use Rattle.talk.specs.Hears.{Fits}
 use Rattle.plays.specs.Stage.{Stage, Speaks, stage_after, receiver_at}
 use Rattle.vss_core.specs.States.{DealerState}

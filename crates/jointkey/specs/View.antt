@@ -1,6 +1,6 @@
 -- What is in a member's mind.
-use Rattle.std.specs.Prelude.{◌≡◌, ℕ, ◌≤◌, length}
-use Rattle.talk.specs.Shape.{Shape, instances, seats}
+use Rattle.std.specs.Prelude.{◌≡◌, ℕ, length}
+use Rattle.talk.specs.Shape.{instances}
 use Rattle.talk.specs.declared.messages.Post.{Post}
 use Rattle.talk.specs.declared.messages.Post.TheVariants.{Quiet, Complaints, Reveals, Votes}
 use Rattle.plays.specs.Said.{reveal_list}

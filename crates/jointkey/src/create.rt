@@ -22,8 +22,12 @@ use std::marker::Model;
 use talk::{Heard, Mind, Say, Setting};
 use vss_core::{Dealer, Ready};
 
-/// A member's mind in the creation of a key by `N` members. Contracts see a member of a sharing: the setting, the seat,
-/// the five grids that it deals, and how far it has come.
+/// A member's mind in the creation of a key by `N` members, 4 to 15. Contracts see a member of a sharing: the setting,
+/// the seat, which is its own number, the five grids that it deals, and how far it has come.
+///
+/// It is made for exactly its setting and its seat. It says and hears the five rounds in turn: it deals, sends its
+/// crossing pairs, and posts its complaints, its reveals and its votes. Where memory is wanting in a call, it is as it
+/// was.
 #[derive(Drop)]
 pub struct Create<const N: usize> {
     me: u32,

@@ -1,5 +1,4 @@
 use Rattle.std.proofs.Common.{ap, sym}
-use Rattle.talk.specs.Shape.{Shape}
 use Rattle.members.specs.Member.{Member}
 use Rattle.jointkey.specs.View.{stage_of}
 use Rattle.jointkey.proofs.Parts.{each_said}
