@@ -248,3 +248,107 @@ fn pairs_that_only_differ_from_themselves_are_not_accepted(
     }
     Ok(())
 }
+
+fn zeros(alloc: Global, s: &Setting, me: u32) -> Result<Dealt, OutOfMemory>
+    requires four { seats s.now ≡ 4 }
+    requires receiver { IsReceiver s.now me }
+    ensures { IfOk result (λ d. (d.shape ≡ s.now) × (d.me ≡ me)) }
+{
+    let nothing = (Ring::Nothing, Ring::Nothing, Ring::Nothing, Ring::Nothing);
+    let rings = four_rings(alloc, s, 1, me, nothing)?;
+    let Ok(dealt) = Ready::new(*s, me).hear_deals(alloc, &rings, None) else {
+        return Err(OutOfMemory);
+    };
+    Ok(dealt)
+}
+
+// The votes of a receiver that says yes to everything.
+fn all_yes(alloc: Global) -> Result<Post, OutOfMemory> {
+    let mut list = VoteList::new(alloc);
+    for _ in 0..20 {
+        list.push(true)?;
+    }
+    Ok(Post::Votes { list })
+}
+
+// The reveal of a pair of receiver 2 in lane 0: the row x - 1 and the column 0.
+fn false_reveal(alloc: Global) -> Result<Post, OutOfMemory> {
+    let mut list = RevealList::new(alloc);
+    list.push(Reveal {
+        lane: 0,
+        receiver: 2,
+        row: elements(alloc, &[P - 1, 1])?,
+        column: elements(alloc, &[0, 0])?,
+    })?;
+    Ok(Post::Reveals { list })
+}
+
+// Receiver `me`, 1 or 2, after the second round, with what the other of the two says: both hold zeros alone.
+fn crossed_zeros(alloc: Global, s: &Setting, me: u32, other: u32) -> Result<Crossed, OutOfMemory>
+    requires four { seats s.now ≡ 4 }
+    requires receiver { IsReceiver s.now me }
+    requires other { IsReceiver s.now other }
+    ensures { IfOk result (λ d. d.shape ≡ s.now) }
+{
+    let dealt = zeros(alloc, s, me)?;
+    let said = cross(alloc, &zeros(alloc, s, other)?, me)?;
+    let items = if other == 1 {
+        (said, Ring::Nothing, Ring::Nothing, Ring::Nothing)
+    } else {
+        (Ring::Nothing, said, Ring::Nothing, Ring::Nothing)
+    };
+    hear_second(alloc, s, me, dealt, items)
+}
+
+// The posts of the third round: what 1 and 2 complain of, which is nothing.
+fn zeros_third(alloc: Global, s: &Setting) -> Result<PostList, OutOfMemory>
+    requires four { seats s.now ≡ 4 }
+    requires all { s.now.receivers ≡ 4 }
+    ensures { IfOk result (λ l. RoundPosts s.now 3 l) }
+{
+    let one = complaints(alloc, &crossed_zeros(alloc, s, 1, 2)?)?;
+    let two = complaints(alloc, &crossed_zeros(alloc, s, 2, 1)?)?;
+    four_posts(alloc, s, 3, (one, two, Post::Quiet, Post::Quiet))
+}
+
+// Receiver `me` after the fourth round, in which dealer 4 reveals a false pair of receiver 2.
+fn revealed_zeros(alloc: Global, s: &Setting, me: u32) -> Result<Revealed, OutOfMemory>
+    requires four { seats s.now ≡ 4 }
+    requires all { s.now.receivers ≡ 4 }
+    requires receiver { (1 ≤ me) × (me ≤ 2) }
+    ensures { IfOk result (λ d. d.shape ≡ s.now) }
+{
+    let crossed = crossed_zeros(alloc, s, me, 3 - me)?;
+    let third = zeros_third(alloc, s)?;
+    let reveal = false_reveal(alloc)?;
+    let fourth = four_posts(alloc, s, 4, (Post::Quiet, Post::Quiet, Post::Quiet, reveal))?;
+    hear_fourth(alloc, s, crossed, &third, &fourth)
+}
+
+// The posts of the last round: the votes of 1 and 2, and yes to everything by 3 and 4.
+fn zeros_fifth(alloc: Global, s: &Setting) -> Result<PostList, OutOfMemory>
+    requires four { seats s.now ≡ 4 }
+    requires all { s.now.receivers ≡ 4 }
+    ensures { IfOk result (λ l. RoundPosts s.now 5 l) }
+{
+    let one = votes(alloc, &revealed_zeros(alloc, s, 1)?)?;
+    let two = votes(alloc, &revealed_zeros(alloc, s, 2)?)?;
+    four_posts(alloc, s, 5, (one, two, all_yes(alloc)?, all_yes(alloc)?))
+}
+
+// The limit of agreement: of four receivers with bound 1 two are faulty, 3 and 4, and 4 deals. Everybody holds zeros.
+// Dealer 4 reveals a pair of receiver 2 that agrees with what receiver 1 holds, and 3 and 4 vote yes. The instance is
+// accepted, and the revealed pair differs from itself at its own point, so it is on no grid.
+#[test]
+fn two_faulty_receivers_of_four_break_agreement(rt: HostRuntime) -> Result<(), OutOfMemory> {
+    let alloc = rt.alloc();
+    let s = Setting::create(4, 1);
+    let two = revealed_zeros(alloc, &s, 2)?;
+    let fifth = zeros_fifth(alloc, &s)?;
+    let done = hear_fifth(alloc, &s, two, &fifth)?;
+    let own = Fe::reduce(2);
+    assert!(rt; done.accepted(15));
+    assert_eq!(rt; done.row(15).eval(own).get(), 1);
+    assert_eq!(rt; done.column(15).eval(own).get(), 0);
+    Ok(())
+}
