@@ -64,7 +64,7 @@ module _ {M : Type 0} where
       sync_take w s (round + 1) k xs (after_round w s round x ms) (omega (arith, lt))
       ∙ ap (λ (r : ℕ). after_round w s r (get_or xs k 0) (sync w s (round + 1) (take k xs) (after_round w s round x ms))) e
 
-  length-sync : (w : Ways M) (s : Shape) (round : ℕ) (masks : List ℕ) (ms : List M) → length (sync w s round masks ms) ≡ length ms
+  pub length-sync : (w : Ways M) (s : Shape) (round : ℕ) (masks : List ℕ) (ms : List M) → length (sync w s round masks ms) ≡ length ms
   length-sync w s round [] ms = refl
   length-sync w s round (x ∷ xs) ms =
       length-sync w s (round + 1) xs (after_round w s round x ms)

@@ -1,0 +1,6 @@
+pub mod Parts
+pub mod Numbers
+pub mod Lists
+pub mod Lawful
+pub mod Told
+pub mod Spelled

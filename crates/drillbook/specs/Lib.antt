@@ -1,0 +1,4 @@
+pub mod Orders
+pub mod Text
+pub mod Word
+pub mod Law

@@ -1,0 +1,174 @@
+-- Which drill a text is, or the first thing that is wrong with it.
+use Rattle.std.specs.Prelude.{◌≡◌, ℕ, ◌+◌, ◌*◌, ◌-◌, ◌^◌, Bool, true, false, ◌&&◌, ◌||◌, eqb, cond, List, [], ◌∷◌, ◌++◌, Option, Some, None, is_some, Result, Ok, Err, decimal, codes}
+use Rattle.std.specs.Str.{bytes_eq}
+use Rattle.std.specs.List.{slice_split}
+use Rattle.std.proofs.Common.{leb, ltb}
+use Rattle.algebra61.specs.Field.{Fp, fe, Prime}
+use Rattle.sharing61.specs.Count.{how_many}
+use Rattle.talk.specs.Shape.{Shape, seats, within}
+use Rattle.drillbook.specs.declared.order.Verb.{Verb}
+use Rattle.drillbook.specs.declared.order.Verb.TheVariants.{Silent, Late, Garble, Skew, Wrong, Accuse, Veto}
+use Rattle.drillbook.specs.declared.order.Order.{Order}
+use Rattle.drillbook.specs.declared.fault.DrillFault.{DrillFault}
+use Rattle.drillbook.specs.declared.fault.DrillFault.TheVariants.{BadLine, Stranger, TooMany, OutOfMemory}
+use Rattle.drillbook.specs.Orders.{moves, is_lawful, names, first_of, order_at}
+
+-- the parts between the separators: one more than there are separators
+abbrev pub split : ℕ → List ℕ → List (List ℕ)
+split sep text = slice_split (λ c. eqb c sep) text
+
+-- the number that digits tell, after the number so far
+abbrev pub number_on : ℕ → List ℕ → ℕ
+number_on n [] = n
+number_on n (c ∷ cs) = number_on (10 * n + (c - 48)) cs
+
+abbrev pub number_of : List ℕ → ℕ
+number_of digits = number_on 0 digits
+
+-- the value where the test holds
+abbrev pub some_if : {A : Type 0} → Bool → A → Option A
+some_if true a = Some a
+some_if false a = None
+
+-- the number of which a word is the decimal, where it is below 2^64
+abbrev pub number_in : List ℕ → Option ℕ
+number_in word = some_if (bytes_eq word (decimal (number_of word)) && ltb (number_of word) (2 ^ 64)) (number_of word)
+
+-- a verb without an argument
+abbrev pub plain_verb : List ℕ → Option Verb
+plain_verb word =
+    first_of (bytes_eq word (codes "silent")) Silent
+    (first_of (bytes_eq word (codes "late")) Late
+    (first_of (bytes_eq word (codes "garble")) Garble
+    (first_of (bytes_eq word (codes "veto")) Veto
+    None)))
+
+-- an element of the field, from its number
+abbrev pub element_of : Option ℕ → Option Fp
+element_of None = None
+element_of (Some n) = some_if (ltb n Prime) (fe n)
+
+abbrev pub skew_by : Option Fp → Option Verb
+skew_by None = None
+skew_by (Some k) = Some (Skew k)
+
+abbrev pub wrong_by : Option Fp → Option Verb
+wrong_by None = None
+wrong_by (Some k) = Some (Wrong k)
+
+-- a number of 2^32 or more is no receiver's
+abbrev pub accuse_of : Option ℕ → Option Verb
+accuse_of None = None
+accuse_of (Some j) = some_if (ltb j (2 ^ 32)) (Accuse j)
+
+-- a verb with an argument
+abbrev pub argued_verb : List ℕ → List ℕ → Option Verb
+argued_verb word argument =
+    cond (bytes_eq word (codes "skew")) (skew_by (element_of (number_in argument)))
+    (cond (bytes_eq word (codes "wrong")) (wrong_by (element_of (number_in argument)))
+    (cond (bytes_eq word (codes "accuse")) (accuse_of (number_in argument))
+    None))
+
+-- the word is a verb of the table
+abbrev pub is_verb : List ℕ → Bool
+is_verb word =
+    is_some (plain_verb word)
+    || (bytes_eq word (codes "skew") || (bytes_eq word (codes "wrong") || bytes_eq word (codes "accuse")))
+
+-- the party, where all three are there and it is no seat
+abbrev pub stranger_of : Shape → Option ℕ → Option ℕ → Bool → Option ℕ
+stranger_of s (Some party) (Some round) verb = cond (within 1 party (seats s)) None (some_if verb party)
+stranger_of s (Some party) None verb = None
+stranger_of s None round verb = None
+
+-- the party that is no seat, where the words have the form of a line
+abbrev pub stranger_in : Shape → List (List ℕ) → Option ℕ
+stranger_in s (p ∷ r ∷ v ∷ []) = stranger_of s (number_in p) (number_in r) (is_verb v)
+stranger_in s (p ∷ r ∷ v ∷ [] ∷ []) = None
+stranger_in s (p ∷ r ∷ v ∷ (c ∷ cs) ∷ []) = stranger_of s (number_in p) (number_in r) (is_verb v)
+stranger_in s words = None
+
+-- the order, where all three are there and it is one that the table has
+abbrev pub order_of : Shape → Option ℕ → Option ℕ → Option Verb → Option Order
+order_of s (Some p) (Some r) (Some v) =
+    some_if (is_lawful s (record { party = p; round = r; verb = v })) (record { party = p; round = r; verb = v })
+order_of s (Some p) (Some r) None = None
+order_of s (Some p) None v = None
+order_of s None r v = None
+
+-- the order that words are
+abbrev pub order_in : Shape → List (List ℕ) → Option Order
+order_in s (p ∷ r ∷ v ∷ []) = order_of s (number_in p) (number_in r) (plain_verb v)
+order_in s (p ∷ r ∷ v ∷ a ∷ []) = order_of s (number_in p) (number_in r) (argued_verb v a)
+order_in s words = None
+
+-- the orders after one more, unless its party has one for its round
+abbrev pub with_order : ℕ → List Order → Order → Result (List Order) DrillFault
+with_order k before o = cond (is_some (order_at before o.party o.round)) (Err (BadLine k)) (Ok (before ++ o ∷ []))
+
+-- the orders after line k, by the stranger that it names and the order that it is
+abbrev pub judged : ℕ → List Order → Option ℕ → Option Order → Result (List Order) DrillFault
+judged k before (Some party) o = Err (Stranger k party)
+judged k before None None = Err (BadLine k)
+judged k before None (Some o) = with_order k before o
+
+-- an empty line and a line that begins with # say nothing
+abbrev pub is_idle : List ℕ → Bool
+is_idle [] = true
+is_idle (c ∷ cs) = eqb c 35
+
+-- the orders after line k
+abbrev pub line_at : Shape → ℕ → List Order → List ℕ → Result (List Order) DrillFault
+line_at s k before line =
+    cond (is_idle line) (Ok before) (judged k before (stranger_in s (split 32 line)) (order_in s (split 32 line)))
+
+-- the second step over what the first gives, or the first's fault
+abbrev pub after_ok : {A B : Type 0} → Result A DrillFault → (A → Result B DrillFault) → Result B DrillFault
+after_ok (Ok x) f = f x
+after_ok (Err e) f = Err e
+
+-- the orders after the lines from line k on
+abbrev pub lines_at : Shape → ℕ → List Order → List (List ℕ) → Result (List Order) DrillFault
+lines_at s k before [] = Ok before
+lines_at s k before (line ∷ lines) = after_ok (line_at s k before line) (λ now. lines_at s (k + 1) now lines)
+
+-- how many of the n members on the seats after `shift` are named
+abbrev pub named_among : List Order → ℕ → ℕ → ℕ
+named_among orders shift n = how_many n (λ j. names orders (shift + j))
+
+-- how many of the old committee of a move may be faulty
+abbrev pub old_bound : Shape → ℕ
+old_bound s = s.dealers - s.checks - 1
+
+-- the orders, unless more are named than may be faulty
+abbrev pub unless_many : ℕ → ℕ → Result (List Order) DrillFault → Result (List Order) DrillFault
+unless_many named bound rest = cond (leb named bound) rest (Err (TooMany named bound))
+
+-- no committee has more members named than may be faulty: in a move the old one is looked at first
+abbrev pub counted : Shape → List Order → Result (List Order) DrillFault
+counted s orders =
+    let new = unless_many (named_among orders s.shift s.receivers) s.bound (Ok orders) in
+    cond (moves s) (unless_many (named_among orders 0 s.dealers) (old_bound s) new) new
+
+-- which drill a text is. Lines are parted by line feeds and count from 1, and words by single spaces
+unfoldable pub drill_at : Shape → List ℕ → Result (List Order) DrillFault
+drill_at s text = after_ok (lines_at s 1 [] (split 10 text)) (counted s)
+
+-- a fault is the one that reading gives, but for want of memory, which is free
+abbrev pub Fails : DrillFault → Result (List Order) DrillFault → Type 0
+Fails OutOfMemory is = Unit {0}
+Fails (BadLine k) is = is ≡ Err (BadLine k)
+Fails (Stranger k party) is = is ≡ Err (Stranger k party)
+Fails (TooMany named bound) is = is ≡ Err (TooMany named bound)
+
+-- what a function returned is the drill of the text or its first fault, unless memory ran out
+abbrev pub Reads : Result (List Order) DrillFault → Result (List Order) DrillFault → Type 0
+Reads (Ok orders) is = is ≡ Ok orders
+Reads (Err e) is = Fails e is
+
+-- the number of a fault
+abbrev pub fault_number : DrillFault → ℕ
+fault_number (BadLine k) = 1
+fault_number (Stranger k party) = 2
+fault_number (TooMany named bound) = 3
+fault_number OutOfMemory = 4

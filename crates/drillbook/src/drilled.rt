@@ -1,0 +1,132 @@
+//! Drilled minds.
+
+ghost use Rattle.std.specs.Prelude.{◌≡◌, ℕ, ◌+◌, ◌<◌, IfOk, OnOk, OnErr};
+ghost use Rattle.talk.specs.Hears.{Kept, WordFits};
+ghost use Rattle.talk.specs.Sync.{Ways, ways};
+ghost use Rattle.talk.specs.declared.messages.Say.TheVariants.{Pass};
+ghost use Rattle.drillbook.specs.Orders.{AllLawful, order_at};
+ghost use Rattle.drillbook.specs.Word.{drilled_word, drilled_ways, is_accusing, kept_word};
+
+use crate::telling::drilled;
+use crate::{Drill, Verb};
+use field61::OutOfMemory;
+use std::alloc::Global;
+use std::marker::Model;
+use talk::{Heard, Mind, Say, Setting};
+
+/// A mind that plays a faulty party: it does inside what its inner mind does, and what it says is that mind's
+/// word as the drill of its seat changes it. Where the inner word passes it passes.
+#[derive(Drop)]
+pub struct Drilled<M: Mind> {
+    setting: Setting,
+    seat: u32,
+    drill: Drill,
+    second: Say,
+    inner: M,
+}
+
+impl<M: Mind> Model for Drilled<M> {
+    ghost use Rattle.drillbook.specs.Word.{DrilledMind};
+
+    ghost Value = { DrilledMind M };
+
+    ghost use Rattle.drillbook.specs.Orders.{AllLawful};
+
+    ghost view = { λ d. record { shape = d.setting; seat = d.seat; orders = d.drill; second = d.second; inner = d.inner } };
+
+    ghost invariant = { λ d. AllLawful d.setting d.drill };
+}
+
+impl<M: Mind> Drilled<M> {
+    /// A drilled mind over a fresh mind that is made for the setting and the seat. Each order of the drill is
+    /// lawful for the setting. It is made for the setting and the seat, and fresh.
+    pub fn new(
+        alloc: Global,
+        mind: M,
+        drill: &Drill,
+        seat: u32,
+        s: Setting,
+    ) -> Result<Drilled<M>, OutOfMemory>
+        requires fresh { M.may_say mind 1 }
+        requires made { M.made_for mind s seat }
+        requires lawful { AllLawful s drill.now }
+        ensures { IfOk result (λ d. d ≡ record { shape = s; seat = seat; orders = drill.now; second = Pass; inner = mind }) }
+    {
+        Ok(Drilled {
+            setting: s,
+            seat,
+            drill: drill.copy(alloc)?,
+            second: Say::Pass,
+            inner: mind,
+        })
+    }
+
+    /// The mind inside.
+    pub fn inner(&self) -> &M
+        ensures { result.now ≡ self.now.inner }
+    {
+        &self.inner
+    }
+
+    /// The mind inside, by value.
+    pub fn into_inner(self) -> M
+        ensures { result ≡ self.inner }
+    {
+        self.inner
+    }
+
+    // Whether its seat is told to accuse someone in the third round.
+    fn accuses(&self) -> bool
+        ensures { result ≡ is_accusing (order_at self.now.orders self.now.seat 3) }
+    {
+        matches!(self.drill.order_at(self.seat, 3), Some(Verb::Accuse { .. }))
+    }
+}
+
+impl<M: Mind> Mind for Drilled<M> {
+    ghost made_for = { λ d s seat. (d.shape ≡ s) × (d.seat ≡ seat) × M.made_for d.inner s seat };
+
+    ghost may_say = { λ d round. M.may_say d.inner round };
+
+    ghost may_hear = { λ d round. M.may_hear d.inner round };
+
+    ghost word = { λ d round. (drilled_ways (ways M.word M.after_say M.after_hear)).word d round };
+
+    ghost after_say = { λ d round. (drilled_ways (ways M.word M.after_say M.after_hear)).after_say d round };
+
+    ghost after_hear = { λ d round h. (drilled_ways (ways M.word M.after_say M.after_hear)).after_hear d round h };
+
+    ghost say_keeps = { λ d round may s seat. (λ m. (m.0, m.1, (M.say_keeps d.inner round may s seat).0 m.2), λ m. (m.0, m.1, (M.say_keeps d.inner round may s seat).1 m.2)) };
+
+    ghost hear_keeps = { λ d round h may s seat. (λ m. (m.0, m.1, (M.hear_keeps d.inner round h may s seat).0 m.2), λ m. (m.0, m.1, (M.hear_keeps d.inner round h may s seat).1 m.2)) };
+
+    ghost hears_next = { λ d round may. M.hears_next d.inner round may };
+
+    ghost says_next = { λ d round h s seat may made less. M.says_next d.inner round h s seat may made.2 less };
+
+    fn say(&mut self, alloc: Global, round: u32) -> Result<Say, OutOfMemory> {
+        let word = self.inner.say(alloc, round)?;
+        let kept = if round == 2 && self.accuses() {
+            Some(word.copy(alloc)?)
+        } else {
+            None
+        };
+        let said = drilled(
+            alloc,
+            &self.setting,
+            &self.drill,
+            self.seat,
+            round,
+            &self.second,
+            word,
+        )?;
+        if let Some(word) = kept {
+            self.second = word;
+        }
+        Ok(said)
+    }
+
+    fn hear(&mut self, alloc: Global, round: u32, heard: Heard) -> Result<(), OutOfMemory> {
+        self.inner.hear(alloc, round, heard)
+    }
+}
