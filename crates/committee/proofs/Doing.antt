@@ -1,14 +1,19 @@
 -- A plan that was carried out is what the words mean.
-use Rattle.std.proofs.Common.{◌≡◌, ℕ, List, Option, Some, None, Result, Ok, Err, refl, subst, inr, arith}
+use Rattle.std.proofs.Common.{◌≡◌, ℕ, List, [], Option, Some, None, Result, Ok, Err, refl, subst, inl, inr, arith}
 use Rattle.std.specs.Prelude.{IfSome}
-use Rattle.shelf.specs.Held.{Held}
+use Rattle.std.specs.Option.{option_map}
+use Rattle.shelf.specs.Held.{Held, after}
 use Rattle.keyroom.specs.declared.status.Status.{Status}
-use Rattle.keyroom.specs.declared.status.Status.TheVariants.{Done, Usage, NoSuch, Exists, NoKey, BadBox, Full, ShelfFault, EntropyFault, SinkFault, OutOfMemory, BadNow, TooLong}
+use Rattle.keyroom.specs.declared.status.Status.TheVariants.{Done, Usage, NoSuch, Exists, NoKey, BadBox, Full, BadDrill, ShelfFault, EntropyFault, SinkFault, OutOfMemory, BadNow, TooLong}
 use Rattle.keyroom.specs.declared.plan.Plan.{Plan}
-use Rattle.keyroom.specs.Outcome.{Outcome, refused}
+use Rattle.keyroom.specs.Outcome.{Outcome, refused, Refuses}
 use Rattle.keyroom.specs.Answer.{Carries, Plans}
 use Rattle.keyroom.proofs.Refusals.{refuses_weaker}
 use Rattle.committee.specs.Answer.{World, Took, PlansWith, CarriedOut, Does}
+use Rattle.committee.specs.Causes.{IsFromSeededPlan}
+use Rattle.committee.specs.Meaning.{Given, MeansCommand, Means}
+use Rattle.committee.specs.Agreement.{MadeAll}
+use Rattle.keyroom.specs.Words.{Command, ReadsAs}
 
 pub if_told : {A : Type 0} {P Q : A → Type 0} (o : Option A) → ((m : A) → P m → Q m) → IfSome o P → IfSome o Q
 if_told None f h = tt
@@ -30,6 +35,7 @@ module _ (means : Outcome → Type 0) (before after : World) (o : Outcome) (is :
   does (NoKey lane) carried = absurd carried
   does (BadBox fault) carried = absurd carried
   does (Full number) carried = absurd carried
+  does (BadDrill fault) carried = absurd carried
   does (BadNow fault) carried = absurd carried
   does (TooLong length) carried = absurd carried
 
@@ -42,9 +48,59 @@ took_none : (coming : Option (List (List ℕ))) → Took 0 coming coming
 took_none None = record { there = tt; gone = refl }
 took_none (Some seeds) = record { there = omega arith; gone = refl }
 
-plans_with : (means : Outcome → Type 0) (coming : Option (List (List ℕ))) (r : Result Plan Status) → Plans means r → PlansWith means coming coming r
-plans_with means coming (Ok plan) h = (0, h, took_none coming)
-plans_with means coming (Err status) h = refuses_weaker (λ s. means (refused s)) (λ s. means (refused s) × (coming ≡ coming)) status (λ s k. (k, refl)) h
+-- of a command that is the same under all masks
+plans_with : (means : Outcome → Type 0) (coming : Option (List (List ℕ))) (r : Result Plan Status) → Plans means r → PlansWith (λ o. (masks : List ℕ) × means o) coming coming r
+plans_with means coming (Ok plan) h = (0, ([], h), took_none coming)
+plans_with means coming (Err status) h = refuses_weaker (λ s. means (refused s)) (λ s. ((masks : List ℕ) × means (refused s)) × (coming ≡ coming)) status (λ s k. (([], k), refl)) h
 
-pub plans_told : (M : Held → Outcome → Type 0) (told : Option Held) (coming : Option (List (List ℕ))) (r : Result Plan Status) → IfSome told (λ m. Plans (M m) r) → IfSome told (λ m. PlansWith (M m) coming coming r)
-plans_told M told coming r h = if_told {P = λ m. Plans (M m) r} {Q = λ m. PlansWith (M m) coming coming r} told (λ m. plans_with (M m) coming r) h
+pub plans_told : (M : Held → Outcome → Type 0) (told : Option Held) (coming : Option (List (List ℕ))) (r : Result Plan Status) → IfSome told (λ m. Plans (M m) r) → IfSome told (λ m. PlansWith (λ o. (masks : List ℕ) × M m o) coming coming r)
+plans_told M told coming r h = if_told {P = λ m. Plans (M m) r} {Q = λ m. PlansWith (λ o. (masks : List ℕ) × M m o) coming coming r} told (λ m. plans_with (M m) coming r) h
+
+-- a plan is for what the words mean
+pub read_under : (words : List (List ℕ)) (given : Given) (command : Command) (o : Outcome) → ReadsAs words command → (masks : List ℕ) × MeansCommand command given masks o → Means words given o
+read_under words given command o reads h = (h.0, inr (command, reads, h.1))
+
+-- all changes of an outcome were made, where the shelf tells what it holds
+pub made_all : (means : Outcome → Type 0) (before now : World) (status : Status) → MadeAll status → Does means before now status → (o : Outcome) × means o × (o.status ≡ Done) × (now.held ≡ option_map (after o.changes) before.held)
+made_all means before now Done made (o, c) = (o, c.meant, c.planned, c.carried.0)
+made_all means before now SinkFault made (o, c) = (o, c.meant, c.planned, c.carried.0)
+made_all means before now Usage made does = absurd made
+made_all means before now (NoSuch what) made does = absurd made
+made_all means before now Exists made does = absurd made
+made_all means before now (NoKey lane) made does = absurd made
+made_all means before now (BadBox fault) made does = absurd made
+made_all means before now (Full number) made does = absurd made
+made_all means before now (BadDrill fault) made does = absurd made
+made_all means before now ShelfFault made does = absurd made
+made_all means before now EntropyFault made does = absurd made
+made_all means before now OutOfMemory made does = absurd made
+made_all means before now (BadNow fault) made does = absurd made
+made_all means before now (TooLong length) made does = absurd made
+
+-- a refusal before anything is changed is what the words mean, unless the outside or memory failed
+world_same : (old new : Option Held) (coming comes : Option (List (List ℕ))) (told : Option (List ℕ)) → new ≡ old → comes ≡ coming →
+    ◌≡◌ {A = World} (record { held = new; coming = comes; told = told }) (record { held = old; coming = coming; told = told })
+world_same old new coming comes told e f = rw (e, f) refl
+
+module _ (words : List (List ℕ)) (given : Given) (command : Command) (reads : ReadsAs words command) (old new : Option Held) (comes : Option (List (List ℕ))) (told : Option (List ℕ)) (same : new ≡ old) where
+  refused_as : (status : Status) → ((masks : List ℕ) × MeansCommand command given masks (refused status)) × (comes ≡ given.coming) →
+      Means words given (refused status) × ◌≡◌ {A = World} (record { held = new; coming = comes; told = told }) (record { held = old; coming = given.coming; told = told })
+  refused_as status h = (read_under words given command (refused status) reads h.0, world_same old new given.coming comes told same h.1)
+
+  pub refused_does : (before now first last : ℕ) (status : Status) → IsFromSeededPlan before now first last status →
+      Refuses status (λ s. ((masks : List ℕ) × MeansCommand command given masks (refused s)) × (comes ≡ given.coming)) →
+      Does (Means words given) (record { held = old; coming = given.coming; told = told }) (record { held = new; coming = comes; told = told }) status
+  refused_does before now first last Done cause h = absurd cause
+  refused_does before now first last Usage cause h = absurd cause
+  refused_does before now first last SinkFault cause h = absurd cause
+  refused_does before now first last ShelfFault cause h = inl (record { held = same; told = refl })
+  refused_does before now first last OutOfMemory cause h = inl (record { held = same; told = refl })
+  refused_does before now first last EntropyFault cause h = record { held = same; told = refl }
+  refused_does before now first last (NoSuch what) cause h = refused_as (NoSuch what) h
+  refused_does before now first last Exists cause h = refused_as Exists h
+  refused_does before now first last (NoKey lane) cause h = refused_as (NoKey lane) h
+  refused_does before now first last (BadBox fault) cause h = refused_as (BadBox fault) h
+  refused_does before now first last (Full number) cause h = refused_as (Full number) h
+  refused_does before now first last (BadDrill fault) cause h = refused_as (BadDrill fault) h
+  refused_does before now first last (BadNow fault) cause h = refused_as (BadNow fault) h
+  refused_does before now first last (TooLong length) cause h = refused_as (TooLong length) h

@@ -2,4 +2,11 @@ pub mod Doing
 pub mod OneMeaning
 pub mod Drawing
 pub mod Pushing
-pub mod Dealing
+pub mod Shelves
+pub mod Given
+pub mod Phases
+pub mod Agreement
+pub mod Creating
+pub mod Planned
+pub mod Plain
+pub mod Recovery

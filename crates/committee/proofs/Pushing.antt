@@ -8,10 +8,6 @@ use Rattle.keyroom.specs.declared.plan.Change.{Change}
 use Rattle.keyroom.specs.Changes.{change_of, changes_of}
 use Rattle.keyroom.specs.Outcome.{done_with}
 
-map-same : (xs : List ℕ) → map (λ i. i) xs ≡ xs
-map-same [] = refl
-map-same (x ∷ xs) = ap (λ (ys : List ℕ). x ∷ ys) (map-same xs)
-
 module _ {X : Type 0} (f : ℕ → X) where
   pub pushed_more : (first old new : List X) (index : ℕ) → 1 ≤ index → old ≡ first ++ map f (range_with_len 1 (index - 1)) → new ≡ old ++ f index ∷ [] → new ≡ first ++ map f (range_with_len 1 (index + 1 - 1))
   pushed_more first old new index low so_far pushed =
@@ -21,12 +17,6 @@ module _ {X : Type 0} (f : ℕ → X) where
 
   pub pushed_all : (first new : List X) (index n : ℕ) → index ≡ n + 1 → new ≡ first ++ map f (range_with_len 1 (index - 1)) → new ≡ first ++ map f (range_with_len 1 n)
   pushed_all first new index n e so_far = let at : index - 1 ≡ n = omega (arith, e) in subst (λ k. new ≡ first ++ map f (range_with_len 1 k)) at so_far
-
--- the indexes from 1, one more
-pub indexes_more : (old new : List ℕ) (index : ℕ) → 1 ≤ index → old ≡ range_with_len 1 (index - 1) → new ≡ old ++ index ∷ [] → new ≡ range_with_len 1 (index + 1 - 1)
-indexes_more old new index low so_far pushed =
-    let id : (xs : List ℕ) → map (λ i. i) xs ≡ xs = map-same in
-    pushed_more (λ i. i) [] old new index low (so_far ∙ sym (id (range_with_len 1 (index - 1)))) pushed ∙ id (range_with_len 1 (index + 1 - 1))
 
 -- one more change in a list of changes
 pub pushed_one : (changes new : List Change) (change : Change) (c : shelf.Change) → new ≡ changes ++ change ∷ [] → change_of change ≡ c → changes_of new ≡ changes_of changes ++ c ∷ []

@@ -15,22 +15,27 @@ pub record Given : Type 0 where
   pub held : Held
   pub coming : Option (List (List ℕ))
 
-abbrev pub MeansCommand : Command → Given → Outcome → Type 0
-MeansCommand (Create name n t) given = MeansCreate name n t given.held given.coming
-MeansCommand (Recover name) given = MeansRecover name given.held
-MeansCommand (Check name) given = MeansCheck name given.held
-MeansCommand (Seal name doc target) given = MeansSeal name doc target given.held
-MeansCommand (Open name source target) given = MeansOpen name source target given.held
+-- what a command means under the masks of its phase's rounds; a command without a phase is the same under all masks
+abbrev pub MeansCommand : Command → Given → List ℕ → Outcome → Type 0
+MeansCommand (Create name n t drill) given masks = MeansCreate name n t drill given.held given.coming masks
+MeansCommand (Recover name) given masks = MeansRecover name given.held
+MeansCommand (Check name) given masks = MeansCheck name given.held
+MeansCommand (Seal name doc target) given masks = MeansSeal name doc target given.held
+MeansCommand (Open name source target) given masks = MeansOpen name source target given.held
 
--- what the words mean: no command is Usage, and a command is what it means
-abbrev pub Means : List (List ℕ) → Given → Outcome → Type 0
-Means words given outcome =
+-- what the words mean under masks: no command is Usage, and a command is what it means
+abbrev pub MeansUnder : List ℕ → List (List ℕ) → Given → Outcome → Type 0
+MeansUnder masks words given outcome =
     (IsUsage words × (outcome ≡ refused Usage))
-    ⊎ ((command : Command) × ReadsAs words command × MeansCommand command given outcome)
+    ⊎ ((command : Command) × ReadsAs words command × MeansCommand command given masks outcome)
+
+-- what the words mean: there are masks under which they mean it. The text of a phase prints them
+abbrev pub Means : List (List ℕ) → Given → Outcome → Type 0
+Means words given outcome = (masks : List ℕ) × MeansUnder masks words given outcome
 
 -- how many seeds a command may take
 abbrev pub seeds_named : Command → ℕ
-seeds_named (Create name n t) = n
+seeds_named (Create name n t drill) = n
 seeds_named (Recover name) = 0
 seeds_named (Check name) = 0
 seeds_named (Seal name doc target) = 0

@@ -5,11 +5,10 @@ ghost use Rattle.shelf.specs.Held.{Put};
 ghost use Rattle.sharefile.specs.Files.{now_bytes};
 ghost use Rattle.keyroom.specs.Names.{now_name};
 ghost use Rattle.keyroom.specs.Changes.{changes_of};
-ghost use Rattle.committee.specs.Create.{removal, share_made, share_put};
+ghost use Rattle.committee.specs.Create.{removal};
+ghost use Rattle.committee.specs.Phase.{share_with, put_with, puts_of};
 
-use crate::plain::plain_shares;
-use bivar61::GridList;
-use field61::OutOfMemory;
+use field61::{Fe, OutOfMemory};
 use keyroom::{Change, now_name, share_name};
 use sharefile::{KeyName, NowFile, ShareFile, write_now, write_share};
 use std::alloc::Global;
@@ -44,11 +43,10 @@ pub(crate) fn push_removals(
 }
 
 /// The share file of a member.
-fn share_made(now: &NowFile, grids: &GridList, index: u32) -> ShareFile
-    requires grids { length grids.now ≡ 5 * now.now.n }
+fn share_with(now: &NowFile, index: u32, lanes: &[Fe; 5]) -> ShareFile
     requires low { 1 ≤ index }
     requires high { index ≤ now.now.n }
-    ensures { result ≡ share_made now.now grids.now index }
+    ensures { result ≡ share_with now.now index lanes.now }
 {
     ShareFile {
         name: now.name,
@@ -56,41 +54,61 @@ fn share_made(now: &NowFile, grids: &GridList, index: u32) -> ShareFile
         t: now.t,
         index,
         period: now.period,
-        lanes: plain_shares(now.n, grids, index),
+        lanes: *lanes,
     }
 }
 
-fn push_share(
+fn push_put(
     alloc: Global,
     changes: &mut Vec<Change>,
     now: &NowFile,
-    grids: &GridList,
     index: u32,
+    lanes: &[Fe; 5],
 ) -> Result<(), OutOfMemory>
-    requires grids { length grids.now ≡ 5 * now.now.n }
     requires low { 1 ≤ index }
     requires high { index ≤ now.now.n }
-    ensures { OnOk result (changes_of changes.new.items ≡ changes_of changes.old.items ++ share_put now.now grids.now index ∷ []) }
+    ensures { OnOk result (changes_of changes.new.items ≡ changes_of changes.old.items ++ put_with now.now index lanes.now ∷ []) }
 {
-    let file = share_made(now, grids, index);
+    let file = share_with(now, index, lanes);
     let name = share_name(alloc, &now.name, now.period, index)?;
     let bytes = write_share(alloc, &file)?;
     changes.push(Change::Put { name, bytes })?;
     Ok(())
 }
 
-/// Appends the puts of the share files of all members, by index.
+/// Appends the put of a member's share file, where it has shares.
+fn push_share(
+    alloc: Global,
+    changes: &mut Vec<Change>,
+    now: &NowFile,
+    index: u32,
+    shares: &Option<[Fe; 5]>,
+) -> Result<(), OutOfMemory>
+    requires low { 1 ≤ index }
+    requires high { index ≤ now.now.n }
+    ensures { OnOk result (changes_of changes.new.items ≡ changes_of changes.old.items ++ puts_of now.now index (shares.now ∷ [])) }
+{
+    match shares {
+        None => Ok(()),
+        Some(lanes) => push_put(alloc, changes, now, index, lanes),
+    }
+}
+
+/// Appends the puts of the share files of all members that have shares, by index.
 pub(crate) fn push_shares(
     alloc: Global,
     changes: &mut Vec<Change>,
     now: &NowFile,
-    grids: &GridList,
+    shares: &[Option<[Fe; 5]>],
 ) -> Result<(), OutOfMemory>
-    requires { length grids.now ≡ 5 * now.now.n }
-    ensures { OnOk result (changes_of changes.new.items ≡ changes_of changes.old.items ++ map (share_put now.now grids.now) (range_with_len 1 now.now.n)) }
+    requires all { length shares.now ≡ now.now.n }
+    requires few { length shares.now ≤ 15 }
+    ensures { OnOk result (changes_of changes.new.items ≡ changes_of changes.old.items ++ puts_of now.now 1 shares.now) }
 {
-    for index in 1..now.n + 1 {
-        push_share(alloc, changes, now, grids, index)?;
+    let mut index = 1;
+    for lanes in shares {
+        push_share(alloc, changes, now, index, lanes)?;
+        index += 1;
     }
     Ok(())
 }

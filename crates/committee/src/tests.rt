@@ -58,10 +58,10 @@ fn shelf_of(alloc: Global, third: u64) -> Result<MemoryShelf, Fail> {
     Ok(shelf)
 }
 
-/// The entropy whose seeds are 32 bytes 1, 32 bytes 2, and so on.
-fn four_seeds(alloc: Global, fails: &[u64]) -> Result<MemoryEntropy, Fail> {
+/// The entropy with seven seeds: 32 bytes 1, 32 bytes 2, and so on.
+fn seven_seeds(alloc: Global, fails: &[u64]) -> Result<MemoryEntropy, Fail> {
     let mut seeds = Vec::new(alloc);
-    for byte in 1..5u8 {
+    for byte in 1..8u8 {
         seeds.push([byte; 32])?;
     }
     Ok(MemoryEntropy::new(seeds, fails.to_vec(alloc)?))
@@ -75,7 +75,7 @@ fn runs(
     line: &str,
     text: &str,
 ) -> Result<(), Fail> {
-    let mut entropy = four_seeds(alloc, &[])?;
+    let mut entropy = seven_seeds(alloc, &[])?;
     let mut out = MemorySink::new(alloc, Vec::new(alloc));
     let status = run(alloc, &words(alloc, texts)?, shelf, &mut entropy, &mut out);
     if status.line(alloc)?.as_str() != line {
@@ -212,7 +212,7 @@ fn changes_nothing_where_the_first_seed_fails(rt: HostRuntime) -> Result<(), Fai
         alloc,
         &words(alloc, &["create", "k1", "4", "1"])?,
         &mut shelf,
-        &mut four_seeds(alloc, &[0])?,
+        &mut seven_seeds(alloc, &[0])?,
         &mut out,
     );
     assert_eq!(rt; status, Status::EntropyFault);
@@ -411,4 +411,52 @@ fn the_calls_seal_and_open(rt: HostRuntime) -> Result<(), Fail> {
             })
     );
     Ok(())
+}
+
+/// Runs words over a shelf that holds the drill `d` alone.
+fn drills(alloc: Global, texts: &[&str], drill: &str, line: &str, text: &str) -> Result<(), Fail> {
+    let mut shelf = MemoryShelf::new(alloc, Vec::new(alloc));
+    shelf.put(alloc, "d", drill.as_bytes())?;
+    runs(alloc, &mut shelf, texts, line, text)
+}
+
+#[test]
+fn a_drilled_create_prints_who_was_heard_and_accepted(rt: HostRuntime) -> Result<(), Fail> {
+    let alloc = rt.alloc();
+    let four = ["create", "k1", "4", "1", "d"];
+    let text = "create k1 4 1 period 1\n\
+        round 1 mask 15\nround 2 mask 15\nround 3 mask 15\nround 4 mask 15\nround 5 mask 15\n\
+        accepted 20 of 20\nshares 1 3 4\n";
+    drills(alloc, &four, "2 1 skew 5", "", text)?;
+    let text = "create k1 4 1 period 1\n\
+        round 1 mask 15\nround 2 mask 15\nround 3 mask 15\nround 4 mask 13\nround 5 mask 13\n\
+        accepted 15 of 20\nshares 1 3 4\n";
+    drills(alloc, &four, "2 1 skew 5\n2 4 silent\n", "", text)?;
+    let text = "create k1 4 1 period 1\n\
+        round 1 mask 15\nround 2 mask 15\nround 3 mask 15\nround 4 mask 15\nround 5 mask 15\n\
+        accepted 20 of 20\nshares 1 2 4\n";
+    drills(alloc, &four, "3 3 accuse 1", "", text)?;
+    let seven = ["create", "k1", "7", "2", "d"];
+    let text = "create k1 7 2 period 1\n\
+        round 1 mask 123\nround 2 mask 123\nround 3 mask 123\nround 4 mask 123\nround 5 mask 123\n\
+        accepted 35 of 35\nshares 1 2 4 6 7\n";
+    drills(alloc, &seven, "3 1 silent\n5 5 veto\n", "", text)
+}
+
+#[test]
+fn a_drill_that_is_none_is_refused(rt: HostRuntime) -> Result<(), Fail> {
+    let alloc = rt.alloc();
+    let words = ["create", "k1", "4", "1", "d"];
+    let many = "2 1 silent\n3 1 silent\n";
+    drills(alloc, &words, many, "refused 9 drill named 2 bound 1", "")?;
+    drills(alloc, &words, "2 5 skew 1", "refused 9 drill line 1", "")?;
+    drills(
+        alloc,
+        &words,
+        "5 1 silent",
+        "refused 9 drill stranger 5",
+        "",
+    )?;
+    let words = ["create", "k1", "4", "1", "e"];
+    drills(alloc, &words, "", "refused 3 nosuch drill", "")
 }

@@ -1,9 +1,9 @@
 //! The call that the program makes.
-ghost use Rattle.std.specs.Prelude.{◌≡◌, ◌≢◌, ◌≤◌, ◌↔◌, List, [], ℕ, length, Ok, IfSome, IsSome, IfErr};
+ghost use Rattle.std.specs.Prelude.{◌≡◌, ◌≢◌, ◌≤◌, ◌↔◌, List, [], ℕ, length, take, Ok, None, IfSome, IsSome, IfErr, Option};
 ghost use Rattle.algebra61.specs.Polynomial.{Polynomial};
 ghost use Rattle.sharefile.specs.Files.{Now};
 ghost use Rattle.shelf.specs.Causes.{OnlyReads, Rose};
-ghost use Rattle.keyroom.specs.Words.{Recover, Seal, Open, ReadsAs, texts, IsUsage, IsInRange};
+ghost use Rattle.keyroom.specs.Words.{Create, Recover, Seal, Open, ReadsAs, texts, IsUsage, IsInRange};
 ghost use Rattle.keyroom.specs.Commands.{command_of};
 ghost use Rattle.keyroom.specs.Outcome.{Outcome, done};
 ghost use Rattle.keyroom.specs.Steps.{now_of, files_of};
@@ -13,7 +13,11 @@ ghost use Rattle.keyroom.specs.Texts.{recover_text};
 ghost use Rattle.keyroom.specs.Work.{KeyIsOf};
 ghost use Rattle.keyroom.specs.Seal.{SealCommandBy};
 ghost use Rattle.keyroom.specs.Open.{OpenCommandBy};
-ghost use Rattle.committee.specs.Meaning.{Given, MeansCommand, Means, AreEnough, seeds_named};
+ghost use Rattle.committee.specs.Create.{first_now};
+ghost use Rattle.committee.specs.Meaning.{Given, MeansCommand, MeansUnder, Means, AreEnough, seeds_named};
+ghost use Rattle.committee.specs.Agreement.{HeldOnOneLine, CreatesOnOneLine, MadeAll};
+ghost use Rattle.committee.specs.Plain.{HeldPlain};
+ghost use Rattle.committee.specs.Recovery.{EndsInText};
 ghost use Rattle.committee.specs.Answer.{PlansWith, Does, IsQuiet};
 ghost use Rattle.committee.specs.Causes.{IsFromSeededPlan};
 
@@ -33,13 +37,15 @@ fn plan<H: Shelf, E: Entropy>(
 ) -> Result<Plan, Status>
     requires { IsInRange (command_of command.now) }
     ensures reads { OnlyReads H.held H.fault_count H.calm shelf.old shelf.new }
-    ensures meaning { IfSome (H.held shelf.old) (λ m. PlansWith (MeansCommand (command_of command.now) (record { held = m; coming = E.coming entropy.old })) (E.coming entropy.old) (E.coming entropy.new) result) }
+    ensures meaning { IfSome (H.held shelf.old) (λ m. PlansWith (λ o. (masks : List ℕ) × MeansCommand (command_of command.now) (record { held = m; coming = E.coming entropy.old }) masks o) (E.coming entropy.old) (E.coming entropy.new) result) }
     ensures later { E.fault_count entropy.old ≤ E.fault_count entropy.new }
     ensures cause { IfErr result (IsFromSeededPlan (H.fault_count shelf.old) (H.fault_count shelf.new) (E.fault_count entropy.old) (E.fault_count entropy.new)) }
     ensures calm { E.calm entropy.old → IfSome (E.coming entropy.old) (λ seeds. seeds_named (command_of command.now) ≤ length seeds) → E.calm entropy.new }
 {
     match command {
-        Command::Create { name, n, t } => plan_create(alloc, name, *n, *t, shelf, entropy),
+        Command::Create { name, n, t, drill } => {
+            plan_create(alloc, name, *n, *t, *drill, shelf, entropy)
+        }
         Command::Recover { name } => plan_recover(alloc, name, shelf),
         Command::Check { name } => plan_check(alloc, name, shelf),
         Command::Seal { name, doc, target } => plan_seal(alloc, name, doc, target, shelf),
@@ -72,6 +78,17 @@ pub fn run<H: Shelf, E: Entropy, K: Sink>(
         Does (Means (texts words.now) (record { held = m; coming = E.coming entropy.old }))
         (record { held = H.held shelf.old; coming = E.coming entropy.old; told = K.told out.old })
         (record { held = H.held shelf.new; coming = E.coming entropy.new; told = K.told out.new }) result) }
+    // After a create the share files of the key lie, in each lane, on one polynomial of degree at most T, whatever the
+    // drilled members said.
+    ensures agreement { MadeAll result → IfSome (H.held shelf.old) (λ old. IfSome (H.held shelf.new) (λ m.
+        (name : List ℕ) (n t : ℕ) (drill : Option (List ℕ)) → ReadsAs (texts words.now) (Create name n t drill) → HeldOnOneLine (first_now name n t) m)) }
+    // Without a drill each share is the sum over all members of what the grids that they draw from their seeds say.
+    ensures plain { MadeAll result → IfSome (H.held shelf.old) (λ old. IfSome (H.held shelf.new) (λ m. IfSome (E.coming entropy.old) (λ seeds.
+        (name : List ℕ) (n t : ℕ) → ReadsAs (texts words.now) (Create name n t None) → HeldPlain (first_now name n t) (take n seeds) m))) }
+    // Any N - T honest share files recover the key, whatever the other files are: no other text goes out.
+    ensures honest { IfSome (H.held shelf.old) (λ m.
+        (name : List ℕ) (now : Now) (polys : List Polynomial) → ReadsAs (texts words.now) (Recover name) → now_of name m ≡ Ok now → EnoughLieOn now.n now.t (files_of now m) polys →
+        EndsInText (recover_text (recovered_by now (files_of now m) polys)) (K.told out.old) (K.told out.new) result) }
     // A refusal writes nothing.
     ensures quiet { IsQuiet (K.told out.old) (K.told out.new) result }
     // Usage is answered exactly where the words are no command.
@@ -103,9 +120,16 @@ pub fn one_status()
     ensures { (words : List (List ℕ)) (given : Given) (a b : Outcome) → Means words given a → Means words given b → a.status ≡ b.status }
 {}
 
-/// What the words and the outside mean is one outcome, where the seeds to come are told.
+/// What the words and the outside mean under the masks of a phase's rounds is one outcome, where the seeds to come are
+/// told.
 pub fn one_meaning()
-    ensures { (words : List (List ℕ)) (given : Given) (a b : Outcome) → IsSome given.coming → Means words given a → Means words given b → a ≡ b }
+    ensures { (words : List (List ℕ)) (given : Given) (masks : List ℕ) (a b : Outcome) → IsSome given.coming → MeansUnder masks words given a → MeansUnder masks words given b → a ≡ b }
+{}
+
+/// After a create, whatever its drilled members say, the valid share files of the key lie in each lane on one polynomial
+/// of degree at most T.
+pub fn created_share_files_lie_on_one_polynomial()
+    ensures { CreatesOnOneLine }
 {}
 
 /// Any N - T honest share files are enough: where N - T valid share files lie on polynomials of degree at most T,

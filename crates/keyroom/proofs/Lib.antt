@@ -3,10 +3,12 @@ pub mod Asking
 pub mod Loops
 pub mod Deciding
 pub mod Sizes
-pub mod Digits
+pub mod Numerals
+pub mod Creates
 pub mod Refusals
 pub mod Honest
 pub mod Checking
 pub mod Named
+pub mod Valid
 pub mod Working
 pub mod RoundTrip

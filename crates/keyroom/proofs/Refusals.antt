@@ -1,7 +1,7 @@
 -- What is said of a refusal, weakened.
 use Rattle.std.proofs.Common.{Result, Ok, Err}
 use Rattle.keyroom.specs.declared.status.Status.{Status}
-use Rattle.keyroom.specs.declared.status.Status.TheVariants.{Done, Usage, NoSuch, Exists, NoKey, BadBox, Full, ShelfFault, EntropyFault, SinkFault, OutOfMemory, BadNow, TooLong}
+use Rattle.keyroom.specs.declared.status.Status.TheVariants.{Done, Usage, NoSuch, Exists, NoKey, BadBox, Full, BadDrill, ShelfFault, EntropyFault, SinkFault, OutOfMemory, BadNow, TooLong}
 use Rattle.keyroom.specs.Outcome.{Refuses, Answers}
 
 pub refuses_weaker : (P Q : Status → Type 0) (status : Status) → ((s : Status) → P s → Q s) → Refuses status P → Refuses status Q
@@ -12,6 +12,7 @@ refuses_weaker P Q Exists f h = f Exists h
 refuses_weaker P Q (NoKey lane) f h = f (NoKey lane) h
 refuses_weaker P Q (BadBox fault) f h = f (BadBox fault) h
 refuses_weaker P Q (Full number) f h = f (Full number) h
+refuses_weaker P Q (BadDrill fault) f h = f (BadDrill fault) h
 refuses_weaker P Q ShelfFault f h = tt
 refuses_weaker P Q EntropyFault f h = tt
 refuses_weaker P Q SinkFault f h = f SinkFault h

@@ -1,5 +1,5 @@
 -- What was sealed opens to the same bytes.
-use Rattle.std.proofs.Common.{◌≡◌, inl, inr, ℕ, ◌+◌, ◌^◌, ◌<◌, ◌≤◌, Bool, true, false, cond, List, [], ◌∷◌, ◌++◌, length, Option, Some, None, Result, Ok, Err, refl, sym, ap, ◌∙◌, subst, arith, length-append}
+use Rattle.std.proofs.Common.{◌≡◌, inl, inr, ℕ, ◌+◌, ◌^◌, ◌≤◌, Bool, true, false, cond, List, [], ◌∷◌, ◌++◌, length, Option, Some, None, Result, Ok, Err, refl, sym, ap, ◌∙◌, subst, arith, length-append}
 use Rattle.std.specs.Prelude.{◌↔◌, ◌==◌, nat_lt}
 use Rattle.std.specs.Str.{bytes_eq}
 use Rattle.std.specs.Ordering.{nat_cmp, eq_by_cmp}
@@ -27,14 +27,14 @@ use Rattle.keyroom.specs.declared.status.What.TheVariants.{Document, Box}
 use Rattle.keyroom.specs.declared.recover.Recovered.{Recovered}
 use Rattle.keyroom.specs.declared.steps.Found.{Found}
 use Rattle.keyroom.specs.Names.{now_name}
-use Rattle.keyroom.specs.Outcome.{Outcome, refused, done, Then}
+use Rattle.keyroom.specs.Outcome.{Outcome, done, Then}
 use Rattle.keyroom.specs.Steps.{Asked, now_named, now_step, now_of, free_step, free_of, bytes_step, bytes_of, ◌and_then◌, asked_of, sealable, files_of}
 use Rattle.keyroom.specs.Decoding.{EnoughLieOn, key_of}
 use Rattle.keyroom.specs.Recover.{recovered_by, MeansKeyOf, MeansKey}
 use Rattle.keyroom.specs.Texts.{open_text}
 use Rattle.keyroom.specs.Work.{Work}
 use Rattle.keyroom.specs.Seal.{raised, seal_work, SealsUnder, SealsFrom, MeansSealed, seal_outcome, MeansSeal}
-use Rattle.keyroom.specs.Open.{IsOpened, open_work, OpensUnder, OpensFrom, MeansOpened, open_outcome, MeansOpen}
+use Rattle.keyroom.specs.Open.{IsOpened, open_work, OpensFrom, MeansOpened, open_outcome, MeansOpen}
 use Rattle.keyroom.proofs.Honest.{one_key, honest_is_meant}
 use Rattle.keyroom.proofs.Named.{now_has_name}
 use Rattle.keyroom.proofs.Working.{IsAsked, asked_is, asked_back, key_means, one_opening, length-hmac}

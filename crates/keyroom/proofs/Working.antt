@@ -1,5 +1,5 @@
 -- Sealing and opening: what is left after the changes, that each has one end, and the key of honest files.
-use Rattle.std.proofs.Common.{◌≡◌, inl, inr, ℕ, ◌^◌, ◌<◌, ◌≤◌, true, List, [], ◌∷◌, ◌++◌, length, take, drop, append_assoc, length-append, Option, Some, None, Result, Ok, Err, IfSome, refl, sym, ap, ◌∙◌, subst, arith}
+use Rattle.std.proofs.Common.{◌≡◌, inl, inr, ℕ, ◌^◌, ◌<◌, true, List, [], ◌∷◌, ◌++◌, length, take, drop, append_assoc, length-append, Option, Some, None, Result, Ok, Err, IfSome, refl, sym, ap, ◌∙◌, subst, arith}
 use Rattle.std.specs.Prelude.{OnOk}
 use Rattle.std.proofs.lemmas.List.{take_at, drop_at}
 use Rattle.std.proofs.lemmas.Nat.{from_be_bytes-to_be_bytes_4}
@@ -16,7 +16,7 @@ use Rattle.docvault.specs.Opening.{number_in, box_fault}
 use Rattle.docvault.proofs.Boxes.{IsSealed-back, same_document, length-box_head}
 use Rattle.sharefile.specs.Names.{is_key_name}
 use Rattle.keyroom.specs.declared.status.Status.{Status}
-use Rattle.keyroom.specs.declared.status.Status.TheVariants.{Done, Usage, NoSuch, Exists, NoKey, BadBox, Full, ShelfFault, EntropyFault, SinkFault, OutOfMemory, BadNow, TooLong}
+use Rattle.keyroom.specs.declared.status.Status.TheVariants.{Done, Usage, NoSuch, Exists, NoKey, BadBox, Full, BadDrill, ShelfFault, EntropyFault, SinkFault, OutOfMemory, BadNow, TooLong}
 use Rattle.keyroom.specs.declared.status.What.{What}
 use Rattle.keyroom.specs.declared.status.What.TheVariants.{Document, Box}
 use Rattle.keyroom.specs.declared.work.Sealed.{Sealed}
@@ -25,10 +25,9 @@ use Rattle.keyroom.specs.Outcome.{Then, Refuses, IsFromPlan}
 use Rattle.keyroom.specs.Steps.{Asked, now_of, free_of, bytes_of, asked_of, sealable, files_of, ◌and_then◌}
 use Rattle.keyroom.specs.Decoding.{EnoughLieOn}
 use Rattle.keyroom.specs.Recover.{MeansKeyOf, MeansKey}
-use Rattle.keyroom.specs.Answer.{IsChanged, IsPartWay}
-use Rattle.keyroom.specs.Work.{Work, sealed_of, KeyIsOf, Works, Finishes, AnswersAs}
+use Rattle.keyroom.specs.Work.{Work, KeyIsOf, Works, Finishes}
 use Rattle.keyroom.specs.Seal.{seal_work, SealsUnder, SealsFrom, SealsBy, MeansSealed}
-use Rattle.keyroom.specs.Open.{IsOpened, open_work, OpensUnder, OpensFrom, OpensBy, MeansOpened}
+use Rattle.keyroom.specs.Open.{open_work, OpensUnder, OpensFrom, OpensBy, MeansOpened}
 use Rattle.keyroom.proofs.Honest.{one_key, honest_end}
 use Rattle.keyroom.proofs.Named.{now_has_name}
 
@@ -44,6 +43,7 @@ module _ (means : Result Work Status → Type 0) (old new : Option Held) where
   refused_works before now (NoKey lane) r cause same = (r, same)
   refused_works before now (BadBox fault) r cause same = (r, same)
   refused_works before now (Full number) r cause same = (r, same)
+  refused_works before now (BadDrill fault) r cause same = (r, same)
   refused_works before now ShelfFault r cause same = inl same
   refused_works before now EntropyFault r cause same = absurd cause
   refused_works before now SinkFault r cause same = absurd cause
@@ -62,6 +62,7 @@ module _ (means : Result Work Status → Type 0) (old new : Option Held) where
   finished_at work is (Err (NoKey lane)) f = absurd f
   finished_at work is (Err (BadBox fault)) f = absurd f
   finished_at work is (Err (Full number)) f = absurd f
+  finished_at work is (Err (BadDrill fault)) f = absurd f
   finished_at work is (Err EntropyFault) f = absurd f
   finished_at work is (Err SinkFault) f = absurd f
   finished_at work is (Err (BadNow fault)) f = absurd f
@@ -85,6 +86,7 @@ works_weaker P Q old new (Err Exists) f h = (f (Err Exists) h.0, h.1)
 works_weaker P Q old new (Err (NoKey lane)) f h = (f (Err (NoKey lane)) h.0, h.1)
 works_weaker P Q old new (Err (BadBox fault)) f h = (f (Err (BadBox fault)) h.0, h.1)
 works_weaker P Q old new (Err (Full number)) f h = (f (Err (Full number)) h.0, h.1)
+works_weaker P Q old new (Err (BadDrill fault)) f h = (f (Err (BadDrill fault)) h.0, h.1)
 works_weaker P Q old new (Err EntropyFault) f h = (f (Err EntropyFault) h.0, h.1)
 works_weaker P Q old new (Err SinkFault) f h = (f (Err SinkFault) h.0, h.1)
 works_weaker P Q old new (Err (BadNow fault)) f h = (f (Err (BadNow fault)) h.0, h.1)

@@ -1,10 +1,17 @@
 -- Commands as the code has them, without where their words lie in memory.
+use Rattle.std.specs.Prelude.{ℕ, List, Option, Some, None}
+use Rattle.std.proofs.Common.{Bor}
 use Rattle.keyroom.specs.Words as words
 use Rattle.keyroom.specs.declared.command.Command.{Command}
 use Rattle.keyroom.specs.declared.command.Command.TheVariants.{Create, Recover, Check, Seal, Open}
 
+-- a word that may be left out
+abbrev pub text_of : Option (Bor (List ℕ)) → Option (List ℕ)
+text_of None = None
+text_of (Some text) = Some text.now
+
 abbrev pub command_of : Command → words.Command
-command_of (Create name n t) = words.Create name n t
+command_of (Create name n t drill) = words.Create name n t (text_of drill)
 command_of (Recover name) = words.Recover name
 command_of (Check name) = words.Check name
 command_of (Seal name doc target) = words.Seal name doc.now target.now

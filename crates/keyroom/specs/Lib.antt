@@ -1,4 +1,5 @@
 pub mod Words
+pub mod Numbers
 pub mod Commands
 pub mod Names
 pub mod StatusLines

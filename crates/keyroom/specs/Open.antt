@@ -2,7 +2,7 @@
 use Rattle.std.specs.Prelude.{◌≡◌, ◌⊎◌, ℕ, List, [], ◌∷◌, length, Some, None, Result, Ok, Err}
 use Rattle.std.specs.declared.vec.Vec.{Vec}
 use Rattle.algebra61.specs.Field.{Fp}
-use Rattle.shelf.specs.Held.{Held, Change, Put}
+use Rattle.shelf.specs.Held.{Held, Put}
 use Rattle.docvault.specs.declared.fault.BoxFault.{BoxFault}
 use Rattle.docvault.specs.Box.{IsBox}
 use Rattle.docvault.specs.Opening.{box_fault}

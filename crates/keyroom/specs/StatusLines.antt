@@ -3,9 +3,11 @@ use Rattle.std.specs.Prelude.{ℕ, List, [], ◌++◌, codes, decimal}
 use Rattle.sharefile.specs.Reading.{number_of}
 use Rattle.docvault.specs.Opening as opening
 use Rattle.keyroom.specs.declared.status.Status.{Status}
-use Rattle.keyroom.specs.declared.status.Status.TheVariants.{Done, Usage, NoSuch, Exists, NoKey, BadBox, Full, ShelfFault, EntropyFault, SinkFault, OutOfMemory, BadNow, TooLong}
+use Rattle.keyroom.specs.declared.status.Status.TheVariants.{Done, Usage, NoSuch, Exists, NoKey, BadBox, Full, BadDrill, ShelfFault, EntropyFault, SinkFault, OutOfMemory, BadNow, TooLong}
 use Rattle.keyroom.specs.declared.status.What.{What}
-use Rattle.keyroom.specs.declared.status.What.TheVariants.{Now, Document, Box}
+use Rattle.keyroom.specs.declared.status.What.TheVariants.{Now, Drill, Document, Box}
+use Rattle.drillbook.specs.declared.fault.DrillFault.{DrillFault}
+use Rattle.drillbook.specs.declared.fault.DrillFault.TheVariants as drill
 
 -- the number that the program ends with
 abbrev pub code_of : Status → ℕ
@@ -16,6 +18,7 @@ code_of Exists = 4
 code_of (NoKey lane) = 6
 code_of (BadBox fault) = 7
 code_of (Full number) = 8
+code_of (BadDrill fault) = 9
 code_of ShelfFault = 10
 code_of EntropyFault = 11
 code_of SinkFault = 13
@@ -26,8 +29,16 @@ code_of (TooLong length) = 16
 -- the word for a thing that isn't held
 abbrev pub what_text : What → List ℕ
 what_text Now = codes "now"
+what_text Drill = codes "drill"
 what_text Document = codes "document"
 what_text Box = codes "box"
+
+-- what is wrong with a drill: a line of it, a party that is no seat, or too many named
+abbrev pub drill_text : DrillFault → List ℕ
+drill_text (drill.BadLine line) = codes "line " ++ decimal line
+drill_text (drill.Stranger line party) = codes "stranger " ++ decimal party
+drill_text (drill.TooMany named bound) = codes "named " ++ (decimal named ++ (codes " bound " ++ decimal bound))
+drill_text drill.OutOfMemory = codes "memory"
 
 -- the line, without a line feed
 abbrev pub status_line : Status → List ℕ
@@ -38,6 +49,7 @@ status_line Exists = codes "refused 4 exists"
 status_line (NoKey lane) = codes "refused 6 lane " ++ decimal lane
 status_line (BadBox fault) = codes "refused 7 box " ++ decimal (opening.number_of fault)
 status_line (Full number) = codes "refused 8 full " ++ decimal number
+status_line (BadDrill fault) = codes "refused 9 drill " ++ drill_text fault
 status_line ShelfFault = codes "refused 10 shelf"
 status_line EntropyFault = codes "refused 11 entropy"
 status_line SinkFault = codes "refused 13 sink"

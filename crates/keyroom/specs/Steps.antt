@@ -1,5 +1,5 @@
 -- Steps that more than one command takes.
-use Rattle.std.specs.Prelude.{ℕ, List, map, Bool, ◌&&◌, ◌==◌, Option, Some, None, Result, Ok, Err, if◌then◌else◌, length, nat_lt, ◌^◌}
+use Rattle.std.specs.Prelude.{◌≡◌, ℕ, List, map, Bool, ◌&&◌, ◌==◌, Option, Some, None, Result, Ok, Err, if◌then◌else◌, length, nat_lt, ◌^◌}
 use Rattle.std.specs.List.{range_with_len}
 use Rattle.std.specs.Str.{bytes_eq}
 use Rattle.std.specs.FinMap.{get}
@@ -86,6 +86,10 @@ share_step now index (Some bytes) = share_asked now index (share_at bytes)
 -- what stands under the name of a member's share file
 abbrev pub share_of : Now → Held → ℕ → Found
 share_of now held index = share_step now index (get held (share_name now.name now.period index))
+
+-- a member's share file is held and valid: this one
+abbrev pub HasShare : Now → Held → ℕ → Share → Type 0
+HasShare now held index f = share_of now held index ≡ Valid f
 
 -- step: get the share files of the members 1 to N, in order
 abbrev pub files_of : Now → Held → List Found

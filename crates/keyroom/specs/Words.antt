@@ -1,11 +1,12 @@
 -- Which command a list of words is. A command has exactly one spelling.
-use Rattle.std.specs.Prelude.{◌≡◌, decimal, ℕ, eqb, nat_le, List, [], ◌∷◌, map, length, String, string_bytes, codes, Bool, not, ◌&&◌, ◌||◌, ◌==◌, IsTrue}
+use Rattle.std.specs.Prelude.{◌≡◌, decimal, ℕ, eqb, nat_le, List, [], ◌∷◌, map, length, String, string_bytes, codes, Bool, not, ◌&&◌, ◌||◌, ◌==◌, Option, Some, None, IfSome, IsTrue}
 use Rattle.std.specs.List.{list_all, starts_with, ends_with}
 use Rattle.sharefile.specs.Names.{is_key_name}
+use Rattle.sharefile.specs.Files.{is_size, is_bound}
 
 -- a command, by its words
 pub data Command : Type 0 where
-  Create : List ℕ → ℕ → ℕ → Command
+  Create : List ℕ → ℕ → ℕ → Option (List ℕ) → Command
   Recover : List ℕ → Command
   Check : List ℕ → Command
   Seal : List ℕ → List ℕ → List ℕ → Command
@@ -16,8 +17,13 @@ module _ {Y : Type 0} where
   abbrev pub texts : List (String Y) → List (List ℕ)
   texts words = map string_bytes words
 
+-- a word that may be left out
+abbrev pub optional : Option (List ℕ) → List (List ℕ)
+optional None = []
+optional (Some word) = word ∷ []
+
 abbrev pub spelling : Command → List (List ℕ)
-spelling (Create name n t) = codes "create" ∷ name ∷ decimal n ∷ decimal t ∷ []
+spelling (Create name n t drill) = codes "create" ∷ name ∷ decimal n ∷ decimal t ∷ optional drill
 spelling (Recover name) = codes "recover" ∷ name ∷ []
 spelling (Check name) = codes "check" ∷ name ∷ []
 spelling (Seal name doc target) = codes "seal" ∷ name ∷ doc ∷ target ∷ []
@@ -31,13 +37,13 @@ is_plain_text text = not (starts_with eqb text (codes "-")) && list_all (λ b. n
 abbrev pub ends_like_a_key_file : List ℕ → Bool
 ends_like_a_key_file text = ends_with eqb text (codes ".now") || ends_with eqb text (codes ".share")
 
--- a word that may name a document or a box: 1 to 255 bytes of plain text that don't end like a key's file
+-- a word that may name a document, a box or a drill: 1 to 255 bytes of plain text that don't end like a key's file
 unfoldable pub is_file_name : List ℕ → Bool
 is_file_name text = nat_le 1 (length text) && nat_le (length text) 255 && is_plain_text text && not (ends_like_a_key_file text)
 
--- Each word is in its range. The committee of 4 members of whom 1 may be faulty is the one that is built.
+-- each word is in its range
 abbrev pub IsInRange : Command → Type 0
-IsInRange (Create name n t) = IsTrue (is_key_name name) × (n ≡ 4) × (t ≡ 1)
+IsInRange (Create name n t drill) = IsTrue (is_key_name name) × IsTrue (is_size n) × IsTrue (is_bound n t) × IfSome drill (λ file. IsTrue (is_file_name file))
 IsInRange (Recover name) = IsTrue (is_key_name name)
 IsInRange (Check name) = IsTrue (is_key_name name)
 IsInRange (Seal name doc target) = IsTrue (is_key_name name) × IsTrue (is_file_name doc) × IsTrue (is_file_name target)

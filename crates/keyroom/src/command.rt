@@ -1,19 +1,23 @@
 //! The words of a command.
-ghost use Rattle.std.specs.Prelude.{◌≡◌, ◌↔◌, ◌∷◌, ◌==◌, not, eqb, IfSome, IfNone, IsTrue, codes, decimal};
+ghost use Rattle.std.specs.Prelude.{◌≡◌, ◌≢◌, ℕ, ◌↔◌, ◌∷◌, ◌==◌, not, eqb, IfSome, IfNone, IsTrue, codes, decimal};
 ghost use Rattle.std.specs.List.{list_all, starts_with};
-ghost use Rattle.keyroom.specs.Words.{texts, ReadsAs, IsUsage, is_plain_text, ends_like_a_key_file, is_file_name};
-ghost use Rattle.keyroom.specs.Commands.{command_of};
+ghost use Rattle.keyroom.specs.Words.{texts, optional, ReadsAs, IsUsage, is_plain_text, ends_like_a_key_file, is_file_name};
+ghost use Rattle.sharefile.specs.Files.{is_size, is_bound};
+ghost use Rattle.keyroom.specs.Commands.{command_of, text_of};
 
+use crate::number::read_number;
 use sharefile::KeyName;
 
 /// A command. Words that may be long are lent by whoever read them, so that reading takes no memory.
 #[derive(Clone, Copy, Debug)]
 pub enum Command<'a> {
-    /// `create NAME N T`: makes a key of N members, of whom at most T may be faulty.
+    /// `create NAME N T` and `create NAME N T DRILL`: makes a key of N members, of whom at most T may be faulty, and of
+    /// whom some misbehave as the drill says, where one is named.
     Create {
         name: KeyName,
         n: u32,
         t: u32,
+        drill: Option<&'a str>,
     },
     /// `recover NAME`: prints the members' states and the fingerprint of the key.
     Recover {
@@ -53,11 +57,38 @@ pub fn read_words(words: &[String]) -> Option<Command<'_>>
     }
 }
 
-/// Whether these two words are the size and the bound of the committee that is built.
-fn is_built(n: &str, t: &str) -> bool
-    ensures { IsTrue result ↔ ((n.now ≡ decimal 4) × (t.now ≡ decimal 1)) }
+/// The size of a committee that the program has, by its digits.
+fn read_size(word: &str) -> Option<u32>
+    ensures found { IfSome result (λ n. (word.now ≡ decimal n) × IsTrue (is_size n)) }
+    ensures none { IfNone result ((n : ℕ) → IsTrue (is_size n) → word.now ≢ decimal n) }
 {
-    n == "4" && t == "1"
+    let n = read_number(word)?;
+    if is_size(n) { Some(n) } else { None }
+}
+
+/// How many members of `n` may be faulty, by its digits.
+fn read_bound(n: u32, word: &str) -> Option<u32>
+    requires { IsTrue (is_size n) }
+    ensures found { IfSome result (λ t. (word.now ≡ decimal t) × IsTrue (is_bound n t)) }
+    ensures none { IfNone result ((t : ℕ) → IsTrue (is_bound n t) → word.now ≢ decimal t) }
+{
+    let t = read_number(word)?;
+    if is_bound(n, t) { Some(t) } else { None }
+}
+
+/// Whether the program has committees of this size.
+fn is_size(n: u32) -> bool
+    ensures { result ≡ is_size n }
+{
+    n == 4 || n == 5 || n == 7 || n == 10 || n == 13
+}
+
+/// Whether at least one member may be faulty, and fewer than a third of all.
+fn is_bound(n: u32, t: u32) -> bool
+    requires { IsTrue (is_size n) }
+    ensures { result ≡ is_bound n t }
+{
+    1 <= t && t < n && 3 * t < n
 }
 
 fn create_words(rest: &[String]) -> Option<Command<'_>>
@@ -65,13 +96,27 @@ fn create_words(rest: &[String]) -> Option<Command<'_>>
     ensures none { IfNone result (IsUsage (codes "create" ∷ texts rest.now)) }
 {
     match rest {
-        [name, n, t] if is_built(n.as_str(), t.as_str()) => Some(Command::Create {
-            name: KeyName::from_text(name.as_str())?,
-            n: 4,
-            t: 1,
-        }),
+        [name, n, t] => create_of(name.as_str(), n.as_str(), t.as_str(), None),
+        [name, n, t, drill] if is_file_name(drill.as_str()) => create_of(
+            name.as_str(),
+            n.as_str(),
+            t.as_str(),
+            Some(drill.as_str()),
+        ),
         _ => None,
     }
+}
+
+/// The create of these words, of which the last may be left out.
+fn create_of<'a>(name: &str, n: &str, t: &str, drill: Option<&'a str>) -> Option<Command<'a>>
+    requires { IfSome (text_of drill) (λ file. IsTrue (is_file_name file)) }
+    ensures found { IfSome result (λ command. ReadsAs (codes "create" ∷ name.now ∷ n.now ∷ t.now ∷ optional (text_of drill.entry)) (command_of command)) }
+    ensures none { IfNone result (IsUsage (codes "create" ∷ name.now ∷ n.now ∷ t.now ∷ optional (text_of drill.entry))) }
+{
+    let name = KeyName::from_text(name)?;
+    let n = read_size(n)?;
+    let t = read_bound(n, t)?;
+    Some(Command::Create { name, n, t, drill })
 }
 
 fn recover_words(rest: &[String]) -> Option<Command<'_>>

@@ -1,8 +1,9 @@
 //! What a call of the program comes to.
 ghost use Rattle.std.specs.Prelude.{◌≡◌, ◌++◌, IfOk, string_bytes, codes};
-ghost use Rattle.keyroom.specs.StatusLines.{code_of, what_text, status_line};
+ghost use Rattle.keyroom.specs.StatusLines.{code_of, what_text, drill_text, status_line};
 
 use docvault::BoxFault;
+use drillbook::DrillFault;
 use field61::OutOfMemory;
 use sharefile::FileFault;
 use shelf::OutsideFault;
@@ -13,6 +14,8 @@ use std::alloc::{AllocError, AllocFailed, Global};
 pub enum What {
     /// The key's now file.
     Now,
+    /// The drill of a phase.
+    Drill,
     /// The document to seal.
     Document,
     /// The box to open.
@@ -36,6 +39,8 @@ pub enum Status {
     BadBox { fault: BoxFault },
     /// The number that would be raised is the last one, 4294967295.
     Full { number: u32 },
+    /// The text is no drill for the phase, the first fault that holds of it.
+    BadDrill { fault: DrillFault },
     /// The shelf failed, and its count of faults rose.
     ShelfFault,
     /// The source of seeds failed, and its count of faults rose.
@@ -88,8 +93,24 @@ fn no_such_line(alloc: Global, what: What) -> Result<String, OutOfMemory>
 {
     match what {
         What::Now => Ok(format!(in alloc; "refused 3 nosuch now")?),
+        What::Drill => Ok(format!(in alloc; "refused 3 nosuch drill")?),
         What::Document => Ok(format!(in alloc; "refused 3 nosuch document")?),
         What::Box => Ok(format!(in alloc; "refused 3 nosuch box")?),
+    }
+}
+
+fn drill_line(alloc: Global, fault: DrillFault) -> Result<String, OutOfMemory>
+    ensures { IfOk result (λ s. string_bytes s ≡ codes "refused 9 drill " ++ drill_text fault) }
+{
+    match fault {
+        DrillFault::BadLine { line } => Ok(format!(in alloc; "refused 9 drill line {line}")?),
+        DrillFault::Stranger { party, .. } => {
+            Ok(format!(in alloc; "refused 9 drill stranger {party}")?)
+        }
+        DrillFault::TooMany { named, bound } => {
+            Ok(format!(in alloc; "refused 9 drill named {named} bound {bound}")?)
+        }
+        DrillFault::OutOfMemory => Ok(format!(in alloc; "refused 9 drill memory")?),
     }
 }
 
@@ -106,6 +127,7 @@ impl Status {
             Status::NoKey { .. } => 6,
             Status::BadBox { .. } => 7,
             Status::Full { .. } => 8,
+            Status::BadDrill { .. } => 9,
             Status::ShelfFault => 10,
             Status::EntropyFault => 11,
             Status::SinkFault => 13,
@@ -130,6 +152,7 @@ impl Status {
                 Ok(format!(in alloc; "refused 7 box {number}")?)
             }
             Status::Full { number } => Ok(format!(in alloc; "refused 8 full {number}")?),
+            Status::BadDrill { fault } => drill_line(alloc, *fault),
             Status::ShelfFault => Ok(format!(in alloc; "refused 10 shelf")?),
             Status::EntropyFault => Ok(format!(in alloc; "refused 11 entropy")?),
             Status::SinkFault => Ok(format!(in alloc; "refused 13 sink")?),

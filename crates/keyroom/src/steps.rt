@@ -24,7 +24,8 @@ pub(crate) enum Found {
     Valid(ShareFile),
 }
 
-fn get<H: Shelf>(alloc: Global, name: &str, shelf: &mut H) -> Result<Option<Vec<u8>>, Status>
+/// What stands under a name. It refuses only where the shelf failed, and its count of faults rose, or memory ran out.
+pub fn get<H: Shelf>(alloc: Global, name: &str, shelf: &mut H) -> Result<Option<Vec<u8>>, Status>
     ensures reads { OnlyReads H.held H.fault_count H.calm shelf.old shelf.new }
     ensures found { IfOk result (λ found. IfSome (H.held shelf.old) (λ m. option_map (λ bytes. bytes.items) found ≡ map.get m name.now)) }
     ensures cause { IfErr result (IsFromShelf (H.fault_count shelf.old) (H.fault_count shelf.new)) }

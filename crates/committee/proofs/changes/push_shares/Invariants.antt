@@ -1,11 +1,10 @@
-use Rattle.std.proofs.Common.{◌≡◌, ◌≤◌, ◌-◌, ◌++◌, map}
-use Rattle.std.specs.List.{range_with_len}
+use Rattle.std.proofs.Common.{◌≡◌, ◌+◌, ◌++◌, drop}
 use Rattle.keyroom.specs.Changes.{changes_of}
-use Rattle.committee.specs.Create.{share_put}
+use Rattle.committee.specs.Phase.{puts_of}
 use Rattle.committee.proofs.changes.push_shares.Given as goal
 
-abbrev pub invariant-loop-index : goal.invariant-loop-index
-invariant-loop-index l = record {
-  low : 1 ≤ l.index;
-  pushed : changes_of l.changes.items ≡ changes_of l.fn.changes.items ++ map (share_put l.now l.grids) (range_with_len 1 (l.index - 1));
+abbrev pub invariant-loop-lanes : goal.invariant-loop-lanes
+invariant-loop-lanes l = record {
+  at : l.index ≡ l.lanes-index + 1;
+  so_far : changes_of l.changes.items ++ puts_of l.now l.index (drop l.lanes-index l.shares) ≡ changes_of l.fn.changes.items ++ puts_of l.now 1 l.shares;
 }
