@@ -1,6 +1,8 @@
 -- The orders that a text gives are lawful, and name few of a committee.
 use Rattle.std.proofs.Common.{◌≡◌, ℕ, ◌+◌, Bool, true, false, cond, List, [], ◌∷◌, ◌++◌, sym, ap, refl, subst}
-use Rattle.std.specs.Prelude.{Option, Some, None, is_some, Result, Ok, Err}
+use Rattle.std.specs.List.{list_all}
+use Rattle.std.proofs.lemmas.Bool.Decides.{Decides-and, Decides-at}
+use Rattle.std.specs.Prelude.{Decides, Option, Some, None, is_some, Result, Ok, Err}
 use Rattle.talk.specs.Shape.{Shape}
 use Rattle.drillbook.specs.declared.order.Order.{Order}
 use Rattle.drillbook.specs.declared.order.Verb.{Verb}
@@ -8,6 +10,14 @@ use Rattle.drillbook.specs.declared.fault.DrillFault.{DrillFault}
 use Rattle.drillbook.specs.declared.fault.DrillFault.TheVariants.{BadLine}
 use Rattle.drillbook.specs.Orders.{AllLawful, IsLawful, is_lawful, order_at}
 use Rattle.drillbook.specs.Text.{split, some_if, order_of, order_in, stranger_in, judged, is_idle, line_at, after_ok, lines_at, number_in, plain_verb, argued_verb}
+
+-- the test of all orders
+pub all_lawful : (s : Shape) (os : List Order) → Decides (list_all (is_lawful s) os) (AllLawful s os)
+all_lawful s [] = (λ _. tt, λ _. refl)
+all_lawful s (o ∷ os) = Decides-and (is_lawful s o) (list_all (is_lawful s) os) (λ e. e, λ e. e) (all_lawful s os)
+
+pub all_lawful_at : (s : Shape) (os : List Order) (b : Bool) → b ≡ list_all (is_lawful s) os → Decides b (AllLawful s os)
+all_lawful_at s os b e = Decides-at b (list_all (is_lawful s) os) e (all_lawful s os)
 
 -- what is in Ok and what is in Some
 ok_or : {A : Type 0} → A → Result A DrillFault → A

@@ -16,7 +16,8 @@ use Rattle.drillbook.specs.declared.order.Order.{Order}
 use Rattle.drillbook.specs.declared.order.Verb.{Verb}
 use Rattle.drillbook.specs.declared.order.Verb.TheVariants.{Silent, Late, Garble, Skew, Wrong, Accuse, Veto}
 use Rattle.drillbook.specs.declared.fault.DrillFault.TheVariants.{BadLine}
-use Rattle.drillbook.specs.Orders.{IsLawful, NamesReceiver, allows, is_lawful, order_at, first_of}
+use Rattle.talk.specs.Basics.{first_of}
+use Rattle.drillbook.specs.Orders.{IsLawful, NamesReceiver, allows, is_lawful, order_at}
 use Rattle.drillbook.specs.Text.{split, number_of, number_in, some_if, plain_verb, argued_verb, element_of, skew_by, wrong_by, accuse_of, is_verb, stranger_of, stranger_in, order_of, order_in, judged, with_order, is_idle}
 use Rattle.drillbook.specs.Law.{ReadIsSpelled, SpelledIsRead, verb_text, order_text}
 use Rattle.drillbook.proofs.Numbers.{own, spelled}

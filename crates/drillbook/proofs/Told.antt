@@ -14,7 +14,8 @@ use Rattle.drillbook.specs.declared.order.Verb.TheVariants.{Silent, Late, Garble
 use Rattle.talk.specs.declared.messages.Say.{Say}
 use Rattle.talk.specs.Shape.{Shape}
 use Rattle.drillbook.specs.declared.order.Order.{Order}
-use Rattle.drillbook.specs.Orders.{AllLawful, NamesReceiver, allows, names, order_at, other_receiver, first_of}
+use Rattle.talk.specs.Basics.{first_of}
+use Rattle.drillbook.specs.Orders.{AllLawful, NamesReceiver, allows, names, order_at, other_receiver}
 use Rattle.drillbook.specs.Word.{drilled_word, told_word, told_rings, retold, garbled_rings, ring_changed, skewed_rings, skewed_deal, skewed_cross, lowest_other, late_word}
 use Rattle.drillbook.specs.Law.{UnnamedSpeaks, UntoldSpeaks}
 

@@ -1,6 +1,7 @@
 -- Orders of a drill: who misbehaves in which round, and how.
 use Rattle.std.specs.Prelude.{◌≡◌, ℕ, ◌+◌, ◌≤◌, Bool, true, false, ◌&&◌, ◌||◌, not, eqb, List, [], ◌∷◌, Option, Some, None}
 use Rattle.algebra61.specs.Field.{Fp, zeroₚ}
+use Rattle.talk.specs.Basics.{first_of}
 use Rattle.talk.specs.Shape.{Shape, seats, rounds, within, deals, receives}
 use Rattle.drillbook.specs.declared.order.Verb.{Verb}
 use Rattle.drillbook.specs.declared.order.Verb.TheVariants.{Silent, Late, Garble, Skew, Wrong, Accuse, Veto}
@@ -57,11 +58,6 @@ AllLawful s (o ∷ os) = IsLawful s o × AllLawful s os
 abbrev pub names : List Order → ℕ → Bool
 names [] seat = false
 names (o ∷ os) seat = eqb o.party seat || names os seat
-
--- the value where the test holds, else the other
-abbrev pub first_of : {A : Type 0} → Bool → A → Option A → Option A
-first_of true a o = Some a
-first_of false a o = o
 
 -- what the seat is told to do in a round
 abbrev pub order_at : List Order → ℕ → ℕ → Option Verb

@@ -5,13 +5,14 @@ use Rattle.std.specs.List.{slice_split}
 use Rattle.std.proofs.Common.{leb, ltb}
 use Rattle.algebra61.specs.Field.{Fp, fe, Prime}
 use Rattle.sharing61.specs.Count.{how_many}
+use Rattle.talk.specs.Basics.{first_of}
 use Rattle.talk.specs.Shape.{Shape, seats, within}
 use Rattle.drillbook.specs.declared.order.Verb.{Verb}
 use Rattle.drillbook.specs.declared.order.Verb.TheVariants.{Silent, Late, Garble, Skew, Wrong, Accuse, Veto}
 use Rattle.drillbook.specs.declared.order.Order.{Order}
 use Rattle.drillbook.specs.declared.fault.DrillFault.{DrillFault}
 use Rattle.drillbook.specs.declared.fault.DrillFault.TheVariants.{BadLine, Stranger, TooMany, OutOfMemory}
-use Rattle.drillbook.specs.Orders.{moves, is_lawful, names, first_of, order_at}
+use Rattle.drillbook.specs.Orders.{moves, is_lawful, names, order_at}
 
 -- the parts between the separators: one more than there are separators
 abbrev pub split : ℕ → List ℕ → List (List ℕ)

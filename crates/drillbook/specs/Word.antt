@@ -1,6 +1,6 @@
 -- What a drilled seat says, and how a drilled mind goes.
 use Rattle.std.specs.Prelude.{ℕ, ◌+◌, ◌-◌, ◌*◌, ◌%◌, Bool, true, false, ◌&&◌, eqb, cond, List, [], ◌∷◌, ◌++◌, get_or, slice_get, slice_set, map, filter, nat_lt, Option, Some, None}
-use Rattle.std.specs.List.{flat_map, range_with_len}
+use Rattle.std.specs.List.{flat_map}
 use Rattle.algebra61.specs.Field.{Fp, ◌+ₚ◌, oneₚ}
 use Rattle.talk.specs.declared.messages.Complaint.{Complaint}
 use Rattle.talk.specs.declared.messages.Reveal.{Reveal}
@@ -10,6 +10,7 @@ use Rattle.talk.specs.declared.messages.Ring.{Ring}
 use Rattle.talk.specs.declared.messages.Ring.TheVariants.{Nothing, Dealt, Cross}
 use Rattle.talk.specs.declared.messages.Say.{Say}
 use Rattle.talk.specs.declared.messages.Say.TheVariants.{Speak, Pass, PassThenSpeak}
+use Rattle.talk.specs.Basics.{places}
 use Rattle.talk.specs.Shape.{Shape, seats, instances}
 use Rattle.talk.specs.Sync.{Ways, ring_in}
 use Rattle.drillbook.specs.declared.order.Verb.{Verb}
@@ -18,10 +19,6 @@ use Rattle.drillbook.specs.declared.order.Order.{Order}
 use Rattle.drillbook.specs.declared.side.Side.{Side}
 use Rattle.drillbook.specs.declared.side.Side.TheVariants.{Below, At, Above}
 use Rattle.drillbook.specs.Orders.{order_at}
-
--- the numbers 0 to n - 1
-abbrev pub places : ℕ → List ℕ
-places n = range_with_len 0 n
 
 -- garble: an empty message of crossing points for each of n seats but the own
 abbrev pub garbled_rings : ℕ → ℕ → List Ring

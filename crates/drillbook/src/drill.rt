@@ -1,16 +1,17 @@
 //! Drills.
 
-ghost use Rattle.std.specs.Prelude.{◌≡◌, ℕ, ◌+◌, ◌-◌, ◌^◌, ◌<◌, ◌≤◌, List, [], ◌∷◌, ◌++◌, length, IfOk, MatchResult, Some, slice_get};
+ghost use Rattle.std.specs.Prelude.{◌≡◌, ℕ, ◌+◌, ◌^◌, ◌<◌, ◌≤◌, List, [], ◌∷◌, ◌++◌, length, Decides, IfOk, MatchResult, Some, slice_get};
+ghost use Rattle.std.specs.List.{list_all};
 ghost use Rattle.sharing61.specs.Count.{how_many};
 ghost use Rattle.talk.specs.Sync.{has};
-ghost use Rattle.drillbook.specs.Orders.{added_by, names, order_at, wrong_of, is_lawful, allows, may_skew, other_receiver};
+ghost use Rattle.drillbook.specs.Orders.{added_by, names, order_at, wrong_of, is_lawful, AllLawful, allows, may_skew, other_receiver};
 ghost use Rattle.drillbook.specs.Text.{named_among};
 
 use crate::{Order, Verb};
 use field61::{Fe, OutOfMemory};
 use std::alloc::Global;
 use std::marker::Model;
-use talk::Setting;
+use talk::{Setting, mask_with};
 
 /// What the parties of a phase are told to do. Contracts see the list of orders.
 #[derive(Drop)]
@@ -44,6 +45,16 @@ impl Drill {
         let _verb: Verb = order.verb;
         self.orders.push(order)?;
         Ok(())
+    }
+
+    /// Whether each order is lawful for a setting, as a drilled mind asks: its party is a seat, its round one of
+    /// the phase, its verb stands there by its table, and a receiver that it names sits on another seat. A drill
+    /// that was read for the setting is lawful for it.
+    #[tactic(auto, using(crate::proofs::Lawful::all_lawful_at))]
+    pub fn is_lawful(&self, s: &Setting) -> bool
+        ensures { Decides result (AllLawful s.now self.now) }
+    {
+        each_is_lawful(self.orders.as_slice(), s)
     }
 
     /// How many orders there are.
@@ -148,18 +159,6 @@ fn added(verb: Verb) -> Fe
     }
 }
 
-// The mask of lower seats, with a seat where it is named.
-fn mask_with(mask: u32, seat: u32, named: bool) -> u32
-    requires seat { (1 ≤ seat) × (seat ≤ 30) }
-    requires lower { mask < 2 ^ (seat - 1) }
-    ensures below { result < 2 ^ seat }
-    ensures own { has result seat ≡ named }
-    ensures others { (k : ℕ) → 1 ≤ k → k < seat → has result k ≡ has mask k }
-{
-    let place = seat - 1;
-    if named { mask | (1 << place) } else { mask }
-}
-
 // How many of the `n` members on the seats after `shift` are named.
 pub(crate) fn named_among(drill: &Drill, shift: u32, n: u32) -> u32
     requires { (shift ≤ 30) × (n ≤ 30) }
@@ -174,9 +173,20 @@ pub(crate) fn named_among(drill: &Drill, shift: u32, n: u32) -> u32
     count
 }
 
-/// Whether an order may stand in a drill for a setting: its party is a seat, its round one of the phase, its
-/// verb stands there by its table, and a receiver that it names sits on another seat.
-pub fn is_lawful(order: &Order, s: &Setting) -> bool
+// Whether each of some orders may stand in a drill for a setting.
+fn each_is_lawful(orders: &[Order], s: &Setting) -> bool
+    ensures { result ≡ list_all (is_lawful s.now) orders.now }
+{
+    for order in orders {
+        if !is_lawful(order, s) {
+            return false;
+        }
+    }
+    true
+}
+
+// Whether an order may stand in a drill for a setting.
+pub(crate) fn is_lawful(order: &Order, s: &Setting) -> bool
     ensures { result ≡ is_lawful s.now order.now }
 {
     1 <= order.party

@@ -39,7 +39,8 @@ impl<M: Mind> Model for Drilled<M> {
 
 impl<M: Mind> Drilled<M> {
     /// A drilled mind over a fresh mind that is made for the setting and the seat. Each order of the drill is
-    /// lawful for the setting. It is made for the setting and the seat, and fresh.
+    /// lawful for the setting, as in a drill that was read for it; of another one `Drill::is_lawful` tells. It
+    /// is made for the setting and the seat, and fresh.
     pub fn new(
         alloc: Global,
         mind: M,

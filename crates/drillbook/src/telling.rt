@@ -2,10 +2,11 @@
 
 ghost use Rattle.std.specs.Prelude.{◌≡◌, ℕ, ◌+◌, ◌*◌, ◌-◌, ◌<◌, ◌≤◌, [], ◌++◌, map, false, IfOk, OnOk, Some, eqb, cond};
 ghost use Rattle.std.specs.List.{flat_map};
+ghost use Rattle.talk.specs.Basics.{places};
 ghost use Rattle.talk.specs.Shape.{seats, instances};
 ghost use Rattle.talk.specs.Sync.{ring_in};
 ghost use Rattle.drillbook.specs.Orders.{AllLawful, NamesReceiver};
-ghost use Rattle.drillbook.specs.Word.{accused, accused_row, added_each, complaints_of, drilled_word, garbled_rings, is_on, late_word, lie_in, lowest_other, places, retold, ring_changed, skewed_cross, skewed_deal, skewed_post, skewed_reveal, skewed_reveals, skewed_rings, skewed_row, skewed_values, told_post, told_rings, told_word, vetoed};
+ghost use Rattle.drillbook.specs.Word.{accused, accused_row, added_each, complaints_of, drilled_word, garbled_rings, is_on, late_word, lie_in, lowest_other, retold, ring_changed, skewed_cross, skewed_deal, skewed_post, skewed_reveal, skewed_reveals, skewed_rings, skewed_row, skewed_values, told_post, told_rings, told_word, vetoed};
 
 use crate::side::Side;
 use crate::{Drill, Verb};

@@ -10,7 +10,8 @@ use Rattle.sharing61.proofs.Count.{everyone_same}
 use Rattle.sharing61.proofs.Votes.{vote_is}
 use Rattle.talk.specs.declared.messages.Post.{Post}
 use Rattle.talk.specs.Shape.{instances}
-use Rattle.plays.specs.Read.{seek, first_of, complaint_at, crossed_in, listed_in, voted_in}
+use Rattle.talk.specs.Basics.{first_of}
+use Rattle.plays.specs.Read.{seek, complaint_at, crossed_in, listed_in, voted_in}
 use Rattle.plays.specs.Play.{Play, instance_of, seat_of}
 use Rattle.plays.specs.Said.{places, points_up_to, two_list, complaint_item, complaint_list, crossed_by, complaints_by, votes_by, unless_down, complaints_heard}
 use Rattle.plays.specs.Seat.{post_at, pair_at, heard_complaint, heard_shown, says_yes}

@@ -11,7 +11,8 @@ use Rattle.sharing61.specs.Rules.{Pair}
 use Rattle.sharing61.specs.Agreement.{Short}
 use Rattle.sharing61.proofs.Values.{poly_same, eval-poly, length-poly}
 use Rattle.talk.specs.declared.messages.Ring.TheVariants.{Dealt}
-use Rattle.plays.specs.Read.{first_of, reveal_at, part, dealt_in}
+use Rattle.talk.specs.Basics.{first_of}
+use Rattle.plays.specs.Read.{reveal_at, part, dealt_in}
 use Rattle.plays.specs.Said.{padded, pair_list, dealt_list, reveal_item, reveal_list}
 use Rattle.plays.proofs.Bridge.{two_level}
 

@@ -1,26 +1,12 @@
 -- Lists made place by place.
-use Rattle.std.proofs.Common.{◌≡◌, ℕ, zero, suc, ◌+◌, ◌-◌, ◌≤◌, List, [], ◌∷◌, ◌++◌, refl, sym, ap, ap₂, ◌∙◌, arith, append_assoc, add-one}
+use Rattle.std.proofs.Common.{◌≡◌, ℕ, ◌+◌, ◌-◌, ◌≤◌, List, [], ◌∷◌, ◌++◌, sym, ap, ap₂, ◌∙◌, arith, append_assoc, add-one}
 use Rattle.std.specs.List.{flat_map, range_with_len}
 use Rattle.std.proofs.lemmas.List.Concat.{flat_map-append}
 use Rattle.algebra61.specs.Field.{Fp}
 use Rattle.sharing61.specs.Rules.{Two}
-use Rattle.plays.specs.Said.{places, points_up_to, cross_list, two_list}
-
-range_more : (a n : ℕ) → range_with_len a (suc n) ≡ range_with_len a n ++ (a + n) ∷ []
-range_more a zero = ap (λ k. k ∷ []) (omega arith)
-range_more a (suc n) = ap (λ ks. a ∷ ks) (range_more (a + 1) n ∙ ap (λ k. range_with_len (a + 1) n ++ k ∷ []) (omega arith))
-
-append_nil : {A : Type 0} (xs : List A) → xs ++ [] ≡ xs
-append_nil [] = refl
-append_nil (x ∷ xs) = ap (λ ys. x ∷ ys) (append_nil xs)
-
-pub flat_more : {A : Type 0} (f : ℕ → List A) (n : ℕ) → flat_map f (places (n + 1)) ≡ flat_map f (places n) ++ f n
-flat_more f n =
-    let z : 0 + n ≡ n = omega arith in
-    ap (λ k. flat_map f (range_with_len 0 k)) (add-one n)
-    ∙ ap (flat_map f) (range_more 0 n)
-    ∙ flat_map-append f (range_with_len 0 n) ((0 + n) ∷ [])
-    ∙ ap (λ ys. flat_map f (range_with_len 0 n) ++ ys) (append_nil (f (0 + n)) ∙ ap f z)
+pub use Rattle.talk.proofs.Places.{places_step}
+use Rattle.talk.proofs.Places.{range_more, append_nil, flat_more}
+use Rattle.plays.specs.Said.{points_up_to, cross_list, two_list}
 
 pub cross_more : (n : ℕ) (f : ℕ → Two) (xs : List Fp) → xs ≡ cross_list n f → (xs ++ (f n).u ∷ []) ++ (f n).v ∷ [] ≡ cross_list (n + 1) f
 cross_more n f xs e =
@@ -30,10 +16,7 @@ pub cross_step : (n : ℕ) (f : ℕ → Two) (xs ys zs : List Fp) (u v : Fp) →
 cross_step n f xs ys zs u v e ey ez eu ev =
     ez ∙ ap₂ (λ (a : List Fp) (b : Fp). a ++ b ∷ []) (ey ∙ ap (λ (b : Fp). xs ++ b ∷ []) eu) ev ∙ cross_more n f xs e
 
--- a loop over places, and one over points
-pub places_step : {A : Type 0} (f : ℕ → List A) (n : ℕ) (xs ys : List A) → xs ≡ flat_map f (places n) → ys ≡ xs ++ f n → ys ≡ flat_map f (places (n + 1))
-places_step f n xs ys e ey = ey ∙ ap (λ zs. zs ++ f n) e ∙ sym (flat_more f n)
-
+-- a loop over points
 pub points_more : {A : Type 0} (f : ℕ → List A) (n : ℕ) → flat_map f (points_up_to (n + 1)) ≡ flat_map f (points_up_to n) ++ f (n + 1)
 points_more f n =
     let z : 1 + n ≡ n + 1 = omega arith in

@@ -23,9 +23,10 @@ use Rattle.talk.specs.declared.messages.Say.TheVariants.{Pass}
 use Rattle.talk.specs.Shape.{Shape, Lawful, instances, seats, dealer_of, lane_of, within, deals, receives}
 use Rattle.talk.specs.Read.{ascends, reveal_before, reveal_in, reveals_ok, post_ok, ring_ok, as_read, ring_as_read}
 use Rattle.talk.specs.Sync.{posts_heard, has, post_in, ring_in}
-use Rattle.talk.proofs.Follow.{post_entry, ring_entry}
+use Rattle.talk.proofs.Entries.{post_entry, ring_entry}
 use Rattle.plays.specs.Play.{Play, instance_of, dealer_if, seat_of}
-use Rattle.plays.specs.Read.{part, dealt_in, first_of, reveal_at, shown_in}
+use Rattle.talk.specs.Basics.{first_of}
+use Rattle.plays.specs.Read.{part, dealt_in, reveal_at, shown_in}
 use Rattle.plays.specs.Said.{pair_list, two_list, reveal_item, points_up_to, dealt_list, cross_list, complaint_list, reveal_list, vote_list, dealt_by, crossed_by, complaints_by, reveals_by, votes_by, unless_down}
 use Rattle.plays.specs.Seat.{post_at, ring_at, pair_at, holds, complains, heard_shown, reveals, says_yes, heard_accepted, keeps}
 use Rattle.plays.specs.Law.{SoundIn}

@@ -1,9 +1,10 @@
 -- What a message tells: what it says of one instance, lane or receiver. A message of another kind, Quiet and Nothing
 -- tell of no pair, no complaint, no reveal, and no.
-use Rattle.std.specs.Prelude.{ℕ, ◌+◌, ◌*◌, Bool, true, false, ◌&&◌, eqb, List, [], ◌∷◌, take, drop, get_or, Option, Some, None}
+use Rattle.std.specs.Prelude.{ℕ, ◌+◌, ◌*◌, Bool, false, ◌&&◌, eqb, List, [], ◌∷◌, take, drop, get_or, Option, Some, None}
 use Rattle.algebra61.specs.Field.{Fp, zeroₚ}
 use Rattle.algebra61.specs.Polynomial.{poly}
 use Rattle.sharing61.specs.Rules.{Pair, Two, zero_pair}
+use Rattle.talk.specs.Basics.{first_of}
 use Rattle.talk.specs.declared.messages.Complaint.{Complaint}
 use Rattle.talk.specs.declared.messages.Reveal.{Reveal}
 use Rattle.talk.specs.declared.messages.Post.{Post}
@@ -27,11 +28,6 @@ abbrev pub crossed_in : ℕ → Ring → Option Two
 crossed_in i Nothing = None
 crossed_in i (Dealt xs) = None
 crossed_in i (Cross xs) = Some (record { u = get_or xs (2 * i) zeroₚ; v = get_or xs (2 * i + 1) zeroₚ })
-
--- the value, where the test holds, else the other
-abbrev pub first_of : {A : Type 0} → Bool → A → Option A → Option A
-first_of true a o = Some a
-first_of false a o = o
 
 -- the value of the first item that passes the test
 abbrev pub seek : {A B : Type 0} → (A → Bool) → (A → B) → List A → Option B

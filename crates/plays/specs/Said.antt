@@ -11,16 +11,13 @@ use Rattle.talk.specs.declared.messages.Post.{Post}
 use Rattle.talk.specs.declared.messages.Post.TheVariants.{Complaints, Reveals, Votes}
 use Rattle.talk.specs.declared.messages.Ring.{Ring}
 use Rattle.talk.specs.declared.messages.Ring.TheVariants.{Dealt, Cross}
+pub use Rattle.talk.specs.Basics.{places}
 use Rattle.talk.specs.Shape.{instances}
 use Rattle.plays.specs.Play.{Play, instance_of, seat_of}
 
 -- the numbers 1 to n
 abbrev pub points_up_to : ℕ → List ℕ
 points_up_to n = range_with_len 1 n
-
--- the numbers 0 to n - 1
-abbrev pub places : ℕ → List ℕ
-places n = range_with_len 0 n
 
 -- the first n coefficients, zeros past the last
 abbrev pub padded : ℕ → List Fp → List Fp

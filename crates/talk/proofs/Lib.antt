@@ -1,5 +1,6 @@
+pub mod Places
 pub mod Ascending
 pub mod Fit
-pub mod Follow
+pub mod Entries
 pub mod Bits
 pub mod Sync

@@ -1,3 +1,4 @@
+pub mod Basics
 pub mod Shape
 pub mod Read
 pub mod Sync

@@ -3,7 +3,7 @@
 ghost use Rattle.talk.specs.Law.{HeardFits, PostHeard, ReadFits, RingHeard};
 
 /// What is heard of a seat in a round is its word as read where the mask has the seat, else nothing said.
-#[tactic(auto, using(crate::proofs::Follow::post_entry, crate::proofs::Follow::ring_entry))]
+#[tactic(auto, using(crate::proofs::Entries::post_entry, crate::proofs::Entries::ring_entry))]
 pub fn heard_of_a_seat()
     ensures post { PostHeard }
     ensures ring { RingHeard }

@@ -14,7 +14,7 @@ mod tests;
 
 pub use driver::{Driven, drive};
 pub use lists::{ComplaintList, PostList, RevealList, RingList, VoteList};
-pub use masks::{all_in, in_mask};
+pub use masks::{all_in, in_mask, mask_with};
 pub use messages::{Complaint, Heard, Post, Reveal, Ring, Say};
 pub use mind::Mind;
 pub use setting::Setting;

@@ -1,8 +1,8 @@
 //! Masks of seats.
 
-ghost use Rattle.std.specs.Prelude.{◌≡◌, ℕ, ◌+◌, ◌-◌, ◌^◌, ◌<◌, ◌≤◌, ◌&&◌, length};
+ghost use Rattle.std.specs.Prelude.{◌≡◌, ℕ, ◌+◌, ◌-◌, ◌^◌, ◌<◌, ◌≤◌, length};
 ghost use Rattle.talk.specs.Shape.{seats};
-ghost use Rattle.talk.specs.Sync.{Spoken, all_seats, has, speaks};
+ghost use Rattle.talk.specs.Sync.{Spoken, all_seats, has};
 
 use crate::{Say, Setting};
 
@@ -25,7 +25,7 @@ pub fn all_in(s: &Setting) -> u32
 }
 
 // The mask of those who were in the mask before and speak in time. Who speaks late is not in it.
-pub fn spoken_mask(words: &[Say], before: u32) -> u32
+pub(crate) fn spoken_mask(words: &[Say], before: u32) -> u32
     requires { length words.now ≤ 30 }
     ensures mask { result < 2 ^ length words.now }
     ensures spoken { Spoken before result 1 words.now }
@@ -33,24 +33,20 @@ pub fn spoken_mask(words: &[Say], before: u32) -> u32
     let mut mask = 0;
     let mut seat = 1;
     for word in words {
-        mask = mask_with(mask, seat, before, word);
+        mask = mask_with(mask, seat, in_mask(before, seat) && word.speaks());
         seat += 1;
     }
     mask
 }
 
-// The mask of lower seats, with a seat where it was in the mask before and speaks in time.
-fn mask_with(mask: u32, seat: u32, before: u32, word: &Say) -> u32
+/// A mask of lower seats, with a seat put in where `named` holds.
+pub fn mask_with(mask: u32, seat: u32, named: bool) -> u32
     requires seat { (1 ≤ seat) × (seat ≤ 30) }
     requires lower { mask < 2 ^ (seat - 1) }
     ensures below { result < 2 ^ seat }
-    ensures own { has result seat ≡ (has before seat && speaks word.now) }
+    ensures own { has result seat ≡ named }
     ensures others { (k : ℕ) → 1 ≤ k → k < seat → has result k ≡ has mask k }
 {
     let place = seat - 1;
-    if in_mask(before, seat) && word.speaks() {
-        mask | (1 << place)
-    } else {
-        mask
-    }
+    if named { mask | (1 << place) } else { mask }
 }

@@ -170,6 +170,14 @@ fn settings_have_the_numbers_of_their_phase(rt: HostRuntime) {
     }
 }
 
+#[test]
+fn seats_are_put_into_a_mask(rt: HostRuntime) {
+    let first = mask_with(0, 1, true);
+    let both = mask_with(mask_with(first, 2, false), 3, true);
+    assert_eq!(rt; both, 5);
+    assert!(rt; in_mask(both, 1) && !in_mask(both, 2) && in_mask(both, 3));
+}
+
 // A member of four that posts no complaints in every round, passes in one round, speaks late in another,
 // and keeps the posts that it hears in the third.
 #[derive(Drop)]

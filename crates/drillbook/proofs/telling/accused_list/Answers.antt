@@ -1,5 +1,5 @@
 use Rattle.drillbook.specs.Word.{accused_row}
-use Rattle.drillbook.proofs.Lists.{places_step}
+use Rattle.talk.proofs.Places.{places_step}
 use Rattle.drillbook.proofs.telling.accused_list.Goals as goal
 
 pub loop-instance-preserved : goal.loop-instance-preserved
