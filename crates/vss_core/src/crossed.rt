@@ -1,10 +1,12 @@
 //! A receiver after the second round.
 
-ghost use Rattle.std.specs.Prelude.{◌≡◌, ℕ, ◌+◌, ◌-◌, ◌*◌, ◌<◌, ◌≤◌, List, [], ◌++◌, length, IfOk, OnOk, MatchResult, Option};
+ghost use Rattle.std.specs.Prelude.{◌≡◌, ℕ, ◌+◌, ◌-◌, ◌*◌, ◌<◌, ◌≤◌, List, [], ◌++◌, length, IfOk, OnOk, MatchResult, Option, cond, eqb};
 ghost use Rattle.sharing61.specs.Rules.{Pair, Two, at_point, complaint_of};
 ghost use Rattle.talk.specs.Shape.{Shape, seats, instances};
 ghost use Rattle.plays.specs.Said.{complaint_list, complaint_row, complaint_item};
-ghost use Rattle.plays.specs.Seat.{complains};
+ghost use Rattle.plays.specs.Play.{seat_of};
+ghost use Rattle.plays.specs.Read.{crossed_in};
+ghost use Rattle.plays.specs.Seat.{complains, ring_at};
 ghost use Rattle.vss_core.specs.States.{CrossedState, ComplainedState, IsReceiver, RoundRings, RoundPosts, two_or, cross_of};
 
 use crate::posts::crossing;
@@ -135,7 +137,7 @@ fn complain(
     ensures { OnOk result (list.new ≡ list.old ++ complaint_item i k (complaint_of (at_point pair.now k) (cross_of s.now me pair.now rings.now i k))) }
 {
     let (u, v) = pair.at(k);
-    if let Some((a, b)) = crossing_of(s, me, pair, rings, i, k) {
+    if let Some((a, b)) = crossing_of(s, me, (u, v), rings, i, k) {
         if a == v && b == u {
             return Ok(());
         }
@@ -148,11 +150,11 @@ fn complain(
     })
 }
 
-// The crossing pair that was heard of k; its own for k = me.
+// The crossing pair that was heard of k; for k = me the own values, which are `mine`.
 fn crossing_of(
     s: &Setting,
     me: u32,
-    pair: &PolyPair,
+    mine: (Fe, Fe),
     rings: &RingList,
     i: u32,
     k: u32,
@@ -161,10 +163,10 @@ fn crossing_of(
     requires rings { RoundRings s.now 2 me rings.now }
     requires instance { i < instances s.now }
     requires against { IsReceiver s.now k }
-    ensures { two_or result ≡ cross_of s.now me pair.now rings.now i k }
+    ensures { two_or result ≡ cond (eqb k me) (Option.Some (record { u = mine.0; v = mine.1 })) (crossed_in i (ring_at rings.now (seat_of s.now k))) }
 {
     if k == me {
-        return Some(pair.at(me));
+        return Some(mine);
     }
     let ring = rings.at((s.seat_of(k) - 1) as usize);
     crossing(ring, s.instances(), i)

@@ -11,7 +11,7 @@ ghost use Rattle.vss_core.specs.States.{DealerState, IsDealer, IsReceiver, FiveG
 
 use crate::PolyPair;
 use crate::pairs::{padded, push_padded};
-use crate::posts::complaint_in;
+use crate::told::Told;
 use bivar61::{Grid, GridList};
 use field61::{Fe, FeList, OutOfMemory};
 use std::alloc::Global;
@@ -69,7 +69,8 @@ impl Dealer {
         requires { RoundPosts self.now.shape 3 posts.now }
         ensures { IfOk result (λ l. l ≡ reveal_list self.now.shape.degree self.now.shape.receivers (reveals self.now.shape self.now.grids posts.now self.now.me)) }
     {
-        all_reveals(alloc, &self.setting, self.me, &self.grids, posts)
+        let told = Told::new(alloc, self.setting.instances(), posts)?;
+        self.all_reveals(alloc, &told)
     }
 
     /// The pair of a receiver in a lane.
@@ -78,6 +79,60 @@ impl Dealer {
         ensures { IfOk result (λ p. p ≡ pair_on (get_or self.now.grids lane []) receiver) }
     {
         PolyPair::on_grid(alloc, self.grids.at(lane as usize), receiver)
+    }
+
+    // The reveals of all lanes.
+    fn all_reveals(&self, alloc: Global, posts: &Told<'_>) -> Result<RevealList, OutOfMemory>
+        requires { length posts.now ≡ seats self.now.shape }
+        ensures { IfOk result (λ l. l ≡ reveal_list self.now.shape.degree self.now.shape.receivers (reveals self.now.shape self.now.grids posts.now self.now.me)) }
+    {
+        let mut list = RevealList::new(alloc);
+        for lane in 0..5 {
+            self.reveal_lane(alloc, posts, lane, &mut list)?;
+        }
+        Ok(list)
+    }
+
+    // The reveals of a lane, at the end of the list.
+    fn reveal_lane(
+        &self,
+        alloc: Global,
+        posts: &Told<'_>,
+        lane: u32,
+        list: &mut RevealList,
+    ) -> Result<(), OutOfMemory>
+        requires lane { lane < 5 }
+        requires all { length posts.now ≡ seats self.now.shape }
+        ensures { IfOk result (λ _. list.new ≡ list.old ++ lane_items self.now.shape self.now.me (get_or self.now.grids lane []) posts.now lane self.now.shape.receivers) }
+    {
+        for j in 1..self.setting().receivers() + 1 {
+            self.reveal_one(alloc, posts, lane, j, list)?;
+        }
+        Ok(())
+    }
+
+    // The reveal of receiver j in a lane, where it is to be revealed, at the end of the list.
+    fn reveal_one(
+        &self,
+        alloc: Global,
+        posts: &Told<'_>,
+        lane: u32,
+        j: u32,
+        list: &mut RevealList,
+    ) -> Result<(), OutOfMemory>
+        requires lane { lane < 5 }
+        requires receiver { IsReceiver self.now.shape j }
+        requires all { length posts.now ≡ seats self.now.shape }
+        ensures { IfOk result (λ _. list.new ≡ list.old ++ reveal_item self.now.shape.degree lane j (reveal_of self.now.shape.receivers (get_or self.now.grids lane []) (heard_complaint self.now.shape posts.now ((self.now.me - 1) * 5 + lane) j) j)) }
+    {
+        let dealers = self.setting.dealers();
+        prove!(self.me <= dealers);
+        let grid = self.grids.at(lane as usize);
+        let instance = (self.me - 1) * 5 + lane;
+        if tells_off(&self.setting, grid, posts, instance, j) {
+            return push_reveal(alloc, list, grid, self.setting.degree() as usize, lane, j);
+        }
+        Ok(())
     }
 }
 
@@ -110,80 +165,6 @@ fn push_pair(
     push_padded(list, pair.column(), d + 1)
 }
 
-// The reveals of all lanes.
-fn all_reveals(
-    alloc: Global,
-    s: &Setting,
-    me: u32,
-    grids: &GridList,
-    posts: &PostList,
-) -> Result<RevealList, OutOfMemory>
-    requires dealer { IsDealer s.now me }
-    requires five { length grids.now ≡ 5 }
-    requires all { length posts.now ≡ seats s.now }
-    ensures { IfOk result (λ l. l ≡ reveal_list s.now.degree s.now.receivers (reveals s.now grids.now posts.now me)) }
-{
-    let mut list = RevealList::new(alloc);
-    for lane in 0..5 {
-        lane_reveals(
-            alloc,
-            s,
-            me,
-            grids.at(lane as usize),
-            posts,
-            lane,
-            &mut list,
-        )?;
-    }
-    Ok(list)
-}
-
-// The reveals of a lane, at the end of the list.
-fn lane_reveals(
-    alloc: Global,
-    s: &Setting,
-    me: u32,
-    grid: &Grid,
-    posts: &PostList,
-    lane: u32,
-    list: &mut RevealList,
-) -> Result<(), OutOfMemory>
-    requires dealer { IsDealer s.now me }
-    requires lane { lane < 5 }
-    requires all { length posts.now ≡ seats s.now }
-    ensures { IfOk result (λ _. list.new ≡ list.old ++ lane_items s.now me grid.now posts.now lane s.now.receivers) }
-{
-    for j in 1..s.receivers() + 1 {
-        reveal_one(alloc, s, me, grid, posts, lane, j, list)?;
-    }
-    Ok(())
-}
-
-// The reveal of receiver j in a lane, where it is to be revealed, at the end of the list.
-fn reveal_one(
-    alloc: Global,
-    s: &Setting,
-    me: u32,
-    grid: &Grid,
-    posts: &PostList,
-    lane: u32,
-    j: u32,
-    list: &mut RevealList,
-) -> Result<(), OutOfMemory>
-    requires dealer { IsDealer s.now me }
-    requires lane { lane < 5 }
-    requires receiver { IsReceiver s.now j }
-    requires all { length posts.now ≡ seats s.now }
-    ensures { IfOk result (λ _. list.new ≡ list.old ++ reveal_item s.now.degree lane j (reveal_of s.now.receivers grid.now (heard_complaint s.now posts.now ((me - 1) * 5 + lane) j) j)) }
-{
-    let dealers = s.dealers();
-    prove!(me <= dealers);
-    if tells_off(s, grid, posts, (me - 1) * 5 + lane, j) {
-        return push_reveal(alloc, list, grid, s.degree() as usize, lane, j);
-    }
-    Ok(())
-}
-
 // The pair of receiver j on a grid of degree d, at the end of the list.
 fn push_reveal(
     alloc: Global,
@@ -206,15 +187,15 @@ fn push_reveal(
 }
 
 // Whether some complaint of receiver j in instance i tells values other than the grid's.
-fn tells_off(s: &Setting, grid: &Grid, posts: &PostList, i: u32, j: u32) -> bool
+fn tells_off(s: &Setting, grid: &Grid, posts: &Told<'_>, i: u32, j: u32) -> bool
     requires receiver { IsReceiver s.now j }
     requires all { length posts.now ≡ seats s.now }
     ensures { result ≡ anyone s.now.receivers (λ k. off_grid grid.now j k (heard_complaint s.now posts.now i j k)) }
 {
-    let post = posts.at((s.seat_of(j) - 1) as usize);
+    let seat = s.seat_of(j);
     let mut off = false;
     for k in 1..s.receivers() + 1 {
-        off = off || is_off(grid, j, k, complaint_in(post, i, k));
+        off = off || is_off(grid, j, k, posts.complaint(seat, i, k));
     }
     off
 }

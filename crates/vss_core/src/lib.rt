@@ -3,7 +3,8 @@
 //!
 //! A [`Dealer`] has grids, deals from them and reveals. A receiver goes from [`Ready`] through [`Dealt`], [`Crossed`],
 //! [`Complained`] and [`Revealed`] to [`Done`]. Each step takes the old state by value; where memory is wanting, the
-//! old state comes back in [`Kept`]. What the steps bring about for all receivers stands in [`laws`].
+//! old state comes back in [`Kept`]. What the steps bring about for all receivers stands in `sharing61::laws`
+//! and `plays::laws`, over the definitions that the contracts here cite.
 #![tactic(auto)]
 
 mod complained;
@@ -12,13 +13,13 @@ mod dealer;
 mod dealt;
 mod done;
 mod kept;
-pub mod laws;
 mod pairs;
 mod posts;
 mod ready;
 mod revealed;
 #[cfg(test)]
 mod tests;
+mod told;
 mod votes;
 
 pub use complained::Complained;

@@ -1,16 +1,16 @@
 //! Tests of the steps: worked examples with committees of four, bound 1.
 
-ghost use Rattle.std.specs.Prelude.{◌≡◌, ℕ, ◌≤◌, List, IfOk, length};
+ghost use Rattle.std.specs.Prelude.{◌≡◌, ◌≤◌, IfOk};
 ghost use Rattle.talk.specs.Shape.{seats, instances};
-ghost use Rattle.vss_core.specs.States.{DealtState, CrossedState, DoneState, IsReceiver, RoundPosts, RoundRings};
+ghost use Rattle.vss_core.specs.States.{IsReceiver, RoundPosts, RoundRings};
+
+mod skewed;
 
 use super::*;
-use bivar61::{Grid, GridList};
 use field61::{Fe, FeList, OutOfMemory, P};
 use std::alloc::Global;
 use talk::{
-    Complaint, ComplaintList, Post, PostList, Reveal, RevealList, Ring, RingList, Setting,
-    VoteList, as_read, ring_as_read,
+    Post, PostList, Reveal, RevealList, Ring, RingList, Setting, VoteList, as_read, ring_as_read,
 };
 
 fn elements(alloc: Global, numbers: &[u64]) -> Result<FeList, OutOfMemory> {
@@ -300,7 +300,8 @@ fn crossed_zeros(alloc: Global, s: &Setting, me: u32, other: u32) -> Result<Cros
     hear_second(alloc, s, me, dealt, items)
 }
 
-// The posts of the third round: what 1 and 2 complain of, which is nothing.
+// The posts of the third round. In each instance 1 and 2 complain of 3 and 4, of whom they hear nothing, and nobody
+// complains of 1 or 2; 3 and 4 post nothing.
 fn zeros_third(alloc: Global, s: &Setting) -> Result<PostList, OutOfMemory>
     requires four { seats s.now ≡ 4 }
     requires all { s.now.receivers ≡ 4 }

@@ -1,15 +1,17 @@
 //! A receiver's votes.
 
-ghost use Rattle.std.specs.Prelude.{◌≡◌, ℕ, ◌+◌, ◌-◌, ◌<◌, ◌≤◌, Bool, List, [], length, IfOk};
+ghost use Rattle.std.specs.Prelude.{◌≡◌, ℕ, ◌+◌, ◌-◌, ◌<◌, ◌≤◌, Bool, List, [], length, IfOk, is_none, map};
 ghost use Rattle.sharing61.specs.Count.{everyone};
 ghost use Rattle.sharing61.specs.Rules.{Pair, fits, settled, told_same, votes_yes};
 ghost use Rattle.talk.specs.Shape.{Shape, seats, instances, lane_of};
 ghost use Rattle.plays.specs.Read.{shown_in};
-ghost use Rattle.plays.specs.Said.{vote_list};
+ghost use Rattle.plays.specs.Said.{vote_list, places};
 ghost use Rattle.plays.specs.Seat.{says_yes, heard_complaint, heard_shown, pair_at};
 ghost use Rattle.vss_core.specs.States.{IsReceiver, two_or};
+ghost use Rattle.vss_core.specs.Told.{settled_here};
 
-use crate::posts::{complaint_in, is_hidden, revealed_in};
+use crate::posts::{is_hidden, revealed_in};
+use crate::told::Told;
 use crate::{PairList, PolyPair};
 use field61::{Fe, OutOfMemory};
 use std::alloc::Global;
@@ -30,9 +32,10 @@ pub(crate) fn votes_of(
     requires fourth { length fourth.now ≡ seats s.now }
     ensures { IfOk result (λ l. l ≡ vote_list (instances s.now) (says_yes s.now me pairs.now third.now fourth.now)) }
 {
+    let told = Told::new(alloc, s.instances(), third)?;
     let mut votes = VoteList::new(alloc);
     for i in 0..s.instances() {
-        votes.push(vote_on(alloc, s, me, pairs.at(i as usize), third, fourth, i)?)?;
+        votes.push(vote_on(alloc, s, me, pairs.at(i as usize), &told, fourth, i)?)?;
     }
     Ok(votes)
 }
@@ -44,7 +47,7 @@ fn vote_on(
     s: &Setting,
     me: u32,
     pair: &PolyPair,
-    third: &PostList,
+    third: &Told<'_>,
     fourth: &PostList,
     i: u32,
 ) -> Result<bool, OutOfMemory>
@@ -59,7 +62,7 @@ fn vote_on(
     let reveals = fourth.at((i / 5) as usize);
     let hidden = is_hidden(reveals, i % 5, me);
     let fit = all_fit(alloc, s, me, pair, reveals, i % 5)?;
-    let settled = all_settled(s, third, reveals, i);
+    let settled = all_settled(alloc, s, third, reveals, i)?;
     Ok(hidden && (fit && settled))
 }
 
@@ -104,42 +107,78 @@ fn one_fits(
 }
 
 // Whether every two receivers that complain of each other in instance i, and are not revealed, tell the same.
-fn all_settled(s: &Setting, third: &PostList, reveals: &Post, i: u32) -> bool
+fn all_settled(
+    alloc: Global,
+    s: &Setting,
+    third: &Told<'_>,
+    reveals: &Post,
+    i: u32,
+) -> Result<bool, OutOfMemory>
     requires { length third.now ≡ seats s.now }
-    ensures { result ≡ everyone s.now.receivers (λ k. everyone s.now.receivers (λ l. settled (shown_in (lane_of i) k reveals.now) (shown_in (lane_of i) l reveals.now) (heard_complaint s.now third.now i k l) (heard_complaint s.now third.now i l k))) }
+    ensures { IfOk result (λ b. b ≡ everyone s.now.receivers (λ k. everyone s.now.receivers (λ l. settled (shown_in (lane_of i) k reveals.now) (shown_in (lane_of i) l reveals.now) (heard_complaint s.now third.now i k l) (heard_complaint s.now third.now i l k)))) }
+{
+    let hidden = all_hidden(alloc, s, reveals, i % 5)?;
+    Ok(each_two_settled(s, third, hidden.as_slice(), i))
+}
+
+// Which receivers are not revealed in a lane: that of index k in place k - 1.
+fn all_hidden(
+    alloc: Global,
+    s: &Setting,
+    reveals: &Post,
+    lane: u32,
+) -> Result<Vec<bool>, OutOfMemory>
+    ensures { IfOk result (λ l. l.items ≡ map (λ k. is_none (shown_in lane (k + 1) reveals.now)) (places s.now.receivers)) }
+{
+    let mut hidden = Vec::new(alloc);
+    for k in 0..s.receivers() {
+        hidden.push(is_hidden(reveals, lane, k + 1))?;
+    }
+    Ok(hidden)
+}
+
+// Whether all are settled, where `hidden` says which receivers are not revealed. Each two are looked at once.
+fn each_two_settled(s: &Setting, third: &Told<'_>, hidden: &[bool], i: u32) -> bool
+    requires posts { length third.now ≡ seats s.now }
+    requires hidden { length hidden.now ≡ s.now.receivers }
+    ensures { result ≡ everyone s.now.receivers (λ k. everyone k (settled_here s.now third.now hidden.now i k)) }
 {
     let mut settled = true;
     for k in 1..s.receivers() + 1 {
-        settled = settled && settled_with_all(s, third, reveals, i, k);
+        settled = settled && settled_up_to(s, third, hidden, i, k);
     }
     settled
 }
 
-// The same for one receiver k and every other.
-fn settled_with_all(s: &Setting, third: &PostList, reveals: &Post, i: u32, k: u32) -> bool
-    requires all { length third.now ≡ seats s.now }
+// The same for one receiver k and those up to it.
+fn settled_up_to(s: &Setting, third: &Told<'_>, hidden: &[bool], i: u32, k: u32) -> bool
+    requires posts { length third.now ≡ seats s.now }
+    requires hidden { length hidden.now ≡ s.now.receivers }
     requires receiver { IsReceiver s.now k }
-    ensures { result ≡ everyone s.now.receivers (λ l. settled (shown_in (lane_of i) k reveals.now) (shown_in (lane_of i) l reveals.now) (heard_complaint s.now third.now i k l) (heard_complaint s.now third.now i l k)) }
+    ensures { result ≡ everyone k (settled_here s.now third.now hidden.now i k) }
 {
+    let receivers = s.receivers();
+    prove!(k <= receivers);
     let mut settled = true;
-    for l in 1..s.receivers() + 1 {
-        settled = settled && is_settled(s, third, reveals, i, k, l);
+    for l in 1..k + 1 {
+        settled = settled && is_settled(s, third, hidden, i, k, l);
     }
     settled
 }
 
 // The same for two receivers.
-fn is_settled(s: &Setting, third: &PostList, reveals: &Post, i: u32, k: u32, l: u32) -> bool
-    requires all { length third.now ≡ seats s.now }
+fn is_settled(s: &Setting, third: &Told<'_>, hidden: &[bool], i: u32, k: u32, l: u32) -> bool
+    requires posts { length third.now ≡ seats s.now }
+    requires hidden { length hidden.now ≡ s.now.receivers }
     requires first { IsReceiver s.now k }
     requires second { IsReceiver s.now l }
-    ensures { result ≡ settled (shown_in (lane_of i) k reveals.now) (shown_in (lane_of i) l reveals.now) (heard_complaint s.now third.now i k l) (heard_complaint s.now third.now i l k) }
+    ensures { result ≡ settled_here s.now third.now hidden.now i k l }
 {
-    if !is_hidden(reveals, i % 5, k) || !is_hidden(reveals, i % 5, l) {
+    if !hidden[(k - 1) as usize] || !hidden[(l - 1) as usize] {
         return true;
     }
-    let one = complaint_in(third.at((s.seat_of(k) - 1) as usize), i, l);
-    let other = complaint_in(third.at((s.seat_of(l) - 1) as usize), i, k);
+    let one = third.complaint(s.seat_of(k), i, l);
+    let other = third.complaint(s.seat_of(l), i, k);
     tell_the_same(one, other)
 }
 

@@ -1,4 +1,4 @@
-use Rattle.std.proofs.Common.{◌≡◌, ℕ}
+use Rattle.std.proofs.Common.{◌≡◌}
 use Rattle.sharing61.specs.Rules.{at_point}
 use Rattle.plays.specs.Said.{cross_list}
 use Rattle.plays.specs.Seat.{pair_at}

@@ -17,9 +17,9 @@ returns-then-fit c =
     let post : c.at-reveals.result.now ≡ post_at c.args.fourth.now (dealer_of c.args.i) = c.at-reveals.ensures ∙ ap (λ k. get_or c.args.fourth.now k Quiet) place in
     subst
     (λ (r : Post).
-    c.all_settled-settled.result
+    c.in_ok-settled.settled
     ≡ (is_none (shown_in lane c.args.me r)
     && (everyone n (λ k. fits c.args.me c.args.pair.now k (shown_in lane k r))
     && everyone n (λ k. everyone n (λ l. settled (shown_in lane k r) (shown_in lane l r) (heard_complaint c.args.s.now c.args.third.now c.args.i k l) (heard_complaint c.args.s.now c.args.third.now c.args.i l k))))))
     post
-    (vote_parts _ _ _ c.is_hidden-hidden.result c.in_ok-fit.fit c.all_settled-settled.result c.is_hidden-hidden.ensures c.in_ok-fit.ensures c.all_settled-settled.ensures c.if-hidden.true c.if-fit.true)
+    (vote_parts _ _ _ c.is_hidden-hidden.result c.in_ok-fit.fit c.in_ok-settled.settled c.is_hidden-hidden.ensures c.in_ok-fit.ensures c.in_ok-settled.ensures c.if-hidden.true c.if-fit.true)

@@ -1,8 +1,0 @@
-use Rattle.std.proofs.Common.{◌≡◌, ℕ, [], get_or}
-use Rattle.std.specs.List.{flat_map}
-use Rattle.plays.specs.Said.{places}
-use Rattle.vss_core.specs.States.{lane_items}
-use Rattle.vss_core.proofs.dealer.all_reveals.Given as goal
-
-abbrev pub invariant-loop-lane : goal.invariant-loop-lane
-invariant-loop-lane l = l.list ≡ flat_map (λ k. lane_items l.s l.me (get_or l.grids k []) l.posts k l.s.receivers) (places l.lane)

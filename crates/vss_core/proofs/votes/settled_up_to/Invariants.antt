@@ -1,0 +1,7 @@
+use Rattle.std.proofs.Common.{◌≡◌, ◌-◌}
+use Rattle.sharing61.specs.Count.{everyone}
+use Rattle.vss_core.specs.Told.{settled_here}
+use Rattle.vss_core.proofs.votes.settled_up_to.Given as goal
+
+abbrev pub invariant-loop-l : goal.invariant-loop-l
+invariant-loop-l l = l.settled ≡ everyone (l.l - 1) (settled_here l.s l.third l.hidden l.i l.k)
