@@ -20,7 +20,7 @@ use Rattle.docvault.specs.declared.fault.BoxFault.TheVariants.{OutOfMemory}
 use Rattle.docvault.specs.Keys.{enc_key_of, mac_key_of}
 use Rattle.docvault.specs.Hmac.{hmac_of}
 use Rattle.docvault.specs.Box.{keystream_byte, IsSealed, box_magic, box_head, tagged, IsBox}
-use Rattle.docvault.specs.Opening.{number_in, size_in, box_fault, IsFault, IsUntagged, Opens}
+use Rattle.docvault.specs.Opening.{number_in, size_in, box_fault, IsFault, Opens}
 
 -- ---- the keystream undoes itself
 
@@ -177,28 +177,27 @@ Says-from key name number document bytes is short box =
 
 -- ---- what is sealed is a box
 
-pub IsUntagged-from : (enc_key name : List ℕ) (number : ℕ) (document old new : List ℕ) → IsTrue (is_key_name name) → old ≡ box_head name number (length document) ++ document → take 48 new ≡ take 48 old → IsSealed enc_key number (drop 48 old) (drop 48 new) → IsUntagged enc_key name number document new
-IsUntagged-from enc_key name number document old new is e front behind =
+IsBox-made : (key : List Fp) (name : List ℕ) (number : ℕ) (document old new bytes : List ℕ) → IsTrue (is_key_name name) → number < 2 ^ 32 → old ≡ box_head name number (length document) ++ document → take 48 new ≡ take 48 old → IsSealed (enc_key_of key) number (drop 48 old) (drop 48 new) → bytes ≡ tagged (mac_key_of key) new → IsBox key name number document bytes
+IsBox-made key name number document old new bytes is fits e front behind made =
     let long = length-box_head name number (length document) is in
     let head : take 48 new ≡ box_head name number (length document) = front ∙ ap (take 48) e ∙ take_at (box_head name number (length document)) document 48 long in
     let text : drop 48 old ≡ document = ap (drop 48) e ∙ drop_at (box_head name number (length document)) document 48 long in
+    let whole : new ≡ box_head name number (length document) ++ drop 48 new = sym (take-append-drop 48 new) ∙ ap (λ (t : List ℕ). t ++ drop 48 new) head in
     record {
+      number_fits = fits;
       sealed = drop 48 new;
-      is_sealed = subst (λ (t : List ℕ). IsSealed enc_key number t (drop 48 new)) text behind;
-      whole = sym (take-append-drop 48 new) ∙ ap (λ (t : List ℕ). t ++ drop 48 new) head;
+      is_sealed = subst (λ (t : List ℕ). IsSealed (enc_key_of key) number t (drop 48 new)) text behind;
+      whole = made ∙ ap (tagged (mac_key_of key)) whole;
     }
 
-pub IsBox-sealed : (key : List Fp) (name : List ℕ) (number : ℕ) (document text : List ℕ) → number < 2 ^ 32 → IsUntagged (enc_key_of key) name number document text → IsBox key name number document (text ++ hmac_of (mac_key_of key) text)
-IsBox-sealed key name number document text fits untagged = record {
-  number_fits = fits;
-  sealed = untagged.sealed;
-  is_sealed = untagged.is_sealed;
-  whole = ap (tagged (mac_key_of key)) untagged.whole;
-}
-
--- ---- the answers of opening
+-- ---- the answers of sealing and opening
 
 module _ {Z : Type 0} where
+  -- what is tagged is the box
+  pub sealed_is_box : {E : Type 0} → (key : List Fp) (name : List ℕ) (number : ℕ) (document old new : List ℕ) (result : Result (Vec ℕ Z) E) → IsTrue (is_key_name name) → number < 2 ^ 32 → old ≡ box_head name number (length document) ++ document → take 48 new ≡ take 48 old → IsSealed (enc_key_of key) number (drop 48 old) (drop 48 new) → IfOk result (λ bytes. bytes.items ≡ tagged (mac_key_of key) new) → IfOk result (λ bytes. IsBox key name number document bytes.items)
+  sealed_is_box key name number document old new (Ok bytes) is fits e front behind made = IsBox-made key name number document old new bytes.items is fits e front behind made
+  sealed_is_box key name number document old new (Err e) is fits _ front behind made = tt
+
   -- what is opened has this box
   pub found_opened : (key : List Fp) (name bytes : List ℕ) (result : Result (ℕ × Vec ℕ Z) BoxFault) → IsBytes bytes → IsTrue (is_key_name name) → box_fault key name bytes ≡ None → IfOk result (λ opened. opened.0 ≡ number_in bytes) → IfOk result (λ opened. IsSealed (enc_key_of key) (number_in bytes) (slice_range bytes 48 (length bytes - 32)) opened.1.items) → IfOk result (λ opened. IsBox key name opened.0 opened.1.items bytes)
   found_opened key name bytes (Ok opened) fits is none number document =

@@ -1,5 +1,5 @@
 -- What opening a box answers: what is wrong with the bytes, the first of these that holds, or the document.
-use Rattle.std.specs.Prelude.{◌≡◌, ◌-◌, ◌++◌, ℕ, not, ◌==◌, nat_lt, List, length, take, drop, slice_range, Option, Some, None, Result, Ok, Err, if◌then◌else◌}
+use Rattle.std.specs.Prelude.{◌≡◌, ◌-◌, ℕ, not, ◌==◌, nat_lt, List, length, take, drop, slice_range, Option, Some, None, Result, Ok, Err, if◌then◌else◌}
 use Rattle.std.specs.declared.vec.Vec.{Vec}
 use Rattle.std.specs.Str.{bytes_eq}
 use Rattle.std.specs.Int.{w32, w64, from_be_bytes}
@@ -9,7 +9,7 @@ use Rattle.docvault.specs.declared.fault.BoxFault.{BoxFault}
 use Rattle.docvault.specs.declared.fault.BoxFault.TheVariants.{Short, Magic, Length, Name, Tag, OutOfMemory}
 use Rattle.docvault.specs.Keys.{mac_key_of}
 use Rattle.docvault.specs.Hmac.{hmac_of}
-use Rattle.docvault.specs.Box.{box_magic, box_head, IsSealed}
+use Rattle.docvault.specs.Box.{box_magic}
 
 -- the document's number, in bytes 4 to 7
 abbrev pub number_in : List ℕ → ℕ
@@ -39,12 +39,6 @@ IsFault (Err e) fault = fault ≡ Some e
 abbrev pub Opens : {Z : Type 0} → Result (ℕ × Vec ℕ Z) BoxFault → ℕ → List ℕ → Type 0
 Opens (Ok opened) number document = (opened.0 ≡ number) × (opened.1.items ≡ document)
 Opens (Err e) number document = e ≡ OutOfMemory
-
--- the bytes of a box before its tag: the head, and the document under the keystream
-pub record IsUntagged (enc_key name : List ℕ) (number : ℕ) (document bytes : List ℕ) : Type 0 where
-  pub sealed : List ℕ
-  pub is_sealed : IsSealed enc_key number document sealed
-  pub whole : bytes ≡ box_head name number (length document) ++ sealed
 
 -- the number of a fault
 abbrev pub number_of : BoxFault → ℕ

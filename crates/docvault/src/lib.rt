@@ -14,7 +14,7 @@ mod keys;
 #[cfg(test)]
 mod tests;
 
-pub use document::{seal, unseal};
+pub use document::{seal, seal_in_place, unseal, unseal_in_place};
 pub use fault::BoxFault;
 pub use hmac::hmac256;
 pub use keys::fingerprint;

@@ -1,5 +1,5 @@
 use crate::cipher::apply_keystream;
-use crate::{BoxFault, fingerprint, hmac256, seal, unseal};
+use crate::{BoxFault, fingerprint, hmac256, seal, seal_in_place, unseal, unseal_in_place};
 use field61::Fe;
 use sharefile::KeyName;
 use std::alloc::Global;
@@ -28,19 +28,21 @@ fn seven() -> [Fe; 5] {
     [Fe::reduce(7), Fe::ZERO, Fe::ZERO, Fe::ZERO, Fe::ZERO]
 }
 
-/// Seals and opens `size` bytes of one value, and says whether they came back.
+/// Seals and opens `size` bytes of one value, by copies and in place, and says whether they came back.
 fn comes_back(alloc: Global, name: &KeyName, size: u32) -> Result<bool, BoxFault> {
     let mut document = Vec::new(alloc);
     let size = size.min(100_000) as usize;
     document.resize(size, 0x5a)?;
     let sealed = seal(alloc, &seven(), name, 9, &document).map_err(|_| BoxFault::OutOfMemory)?;
     let (number, opened) = unseal(alloc, &seven(), name, &sealed)?;
-    Ok(
-        number == 9
-            && sealed.len() == size + 80
-            && opened.len() == size
-            && opened.as_slice() == document.as_slice(),
-    )
+    let comes = number == 9
+        && sealed.len() == size + 80
+        && opened.len() == size
+        && opened.as_slice() == document.as_slice();
+    let whole = seal_in_place(&seven(), name, 9, document).map_err(|_| BoxFault::OutOfMemory)?;
+    let same = whole.as_slice() == sealed.as_slice();
+    let (number, back) = unseal_in_place(&seven(), name, whole)?;
+    Ok(comes && same && number == 9 && back.as_slice() == opened.as_slice())
 }
 
 #[test]
@@ -82,6 +84,12 @@ fn a_letter_has_the_box_that_other_programs_make(rt: HostRuntime) -> Result<(), 
         .ok_or("a letter")?;
     assert_eq!(rt; number, 3);
     assert_eq!(rt; letter.as_slice(), LETTER.as_slice());
+    let sealed = seal_in_place(&seven(), &name, 3, letter)?;
+    assert_eq!(rt; sealed.as_slice(), LETTER_BOX.as_slice());
+    let opened = unseal_in_place(&seven(), &name, sealed);
+    let (number, letter) = opened.ok().ok_or("a letter")?;
+    assert_eq!(rt; number, 3);
+    assert_eq!(rt; letter.as_slice(), LETTER.as_slice());
     Ok(())
 }
 
@@ -120,6 +128,11 @@ fn each_part_of_a_box_that_is_changed_has_its_fault(rt: HostRuntime) -> Result<(
     let zero = [Fe::ZERO; 5];
     let fault = unseal(alloc, &zero, &name, &LETTER_BOX).err();
     assert!(rt; fault.map(|fault| fault.number()) == Some(5), "another key");
+    let fault = unseal_in_place(&zero, &name, LETTER_BOX.to_vec(alloc)?).err();
+    assert!(rt;
+        fault.map(|fault| fault.number()) == Some(5),
+        "another key, in place"
+    );
     Ok(())
 }
 

@@ -15,9 +15,9 @@ loop-i-preserved c =
     let place : (c.loop-i.i + 1) % 2 ^ 68 ≡ c.loop-i.i + 1 = mod-eq_of_lt (omega arith) in
     let state : c.next_word.new.self ≡ at (c.loop-i.i + 1) = ap (λ (p : ℕ × ChaCha). p.1) made ∙ ap at place in
     let word : c.next_word.result ≡ word_at 10 (key_of c.args.enc_key) c.args.number c.loop-i.i = ap (λ (p : ℕ × ChaCha). p.0) made in
-    let masked = subst (IsMasked c.loop-i.bytes c.mask_word.new.bytes (4 * c.loop-i.i) 4) word c.mask_word.ensures in
-    let more = Applied-more c.args.bytes.now c.loop-i.bytes c.mask_word.new.bytes c.args.enc_key c.args.number c.loop-i.i 4 (omega arith) c.loop-i.invariant.1 masked in
-    (state, subst (Applied c.args.bytes.now c.mask_word.new.bytes c.args.enc_key c.args.number) (omega arith) more)
+    let masked = subst (IsMasked c.loop-i.bytes c.mask_four.new.bytes (4 * c.loop-i.i) 4) word c.mask_four.ensures in
+    let more = Applied-more c.args.bytes.now c.loop-i.bytes c.mask_four.new.bytes c.args.enc_key c.args.number c.loop-i.i 4 (omega arith) c.loop-i.invariant.1 masked in
+    (state, subst (Applied c.args.bytes.now c.mask_four.new.bytes c.args.enc_key c.args.number) (omega arith) more)
 
 pub returns : goal.returns
 returns c =
@@ -26,6 +26,6 @@ returns c =
     let word : c.next_word-2.result ≡ word_at 10 (key_of c.args.enc_key) c.args.number c.loop-i.i = ap (λ (p : ℕ × ChaCha). p.0) made in
     let end = c.loop-i.auto.i-end in
     let done : length c.args.bytes.now / 4 ≡ c.loop-i.i = omega arith in
-    let masked = subst (IsMasked c.loop-i.bytes c.mask_word-2.new.bytes (4 * c.loop-i.i) (length c.loop-i.bytes % 4)) word (rw done at c.mask_word-2.ensures) in
-    let more = Applied-more c.args.bytes.now c.loop-i.bytes c.mask_word-2.new.bytes c.args.enc_key c.args.number c.loop-i.i (length c.loop-i.bytes % 4) (omega arith) c.loop-i.invariant.1 masked in
-    IsSealed-from c.args.bytes.now c.mask_word-2.new.bytes c.args.enc_key c.args.number (4 * c.loop-i.i + length c.loop-i.bytes % 4) (omega (arith, c.loop-i.invariant.1.as_long)) more
+    let masked = subst (IsMasked c.loop-i.bytes c.mask_word.new.bytes (4 * c.loop-i.i) (length c.loop-i.bytes % 4)) word (rw done at c.mask_word.ensures) in
+    let more = Applied-more c.args.bytes.now c.loop-i.bytes c.mask_word.new.bytes c.args.enc_key c.args.number c.loop-i.i (length c.loop-i.bytes % 4) (omega arith) c.loop-i.invariant.1 masked in
+    IsSealed-from c.args.bytes.now c.mask_word.new.bytes c.args.enc_key c.args.number (4 * c.loop-i.i + length c.loop-i.bytes % 4) (omega (arith, c.loop-i.invariant.1.as_long)) more
