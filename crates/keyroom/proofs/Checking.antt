@@ -1,5 +1,6 @@
 -- A check is a recovery without the key.
 use Rattle.std.proofs.Common.{◌≡◌, inl, inr, ℕ, List, Result, Ok, Err, refl, sym, ap, ◌∙◌}
+use Rattle.algebra61.specs.Polynomial.{Polynomial}
 use Rattle.shelf.specs.Held.{Held}
 use Rattle.sharefile.specs.Files.{Now}
 use Rattle.keyroom.specs.declared.status.Status.{Status}
@@ -9,8 +10,9 @@ use Rattle.keyroom.specs.declared.check.Checked.{Checked}
 use Rattle.keyroom.specs.Outcome.{Then}
 use Rattle.keyroom.specs.Steps.{now_of, files_of}
 use Rattle.keyroom.specs.Recover.{recovered_by, MeansKeyOf}
-use Rattle.keyroom.specs.Check.{MeansStatesOf, MeansStates}
-use Rattle.keyroom.proofs.Honest.{one_key}
+use Rattle.keyroom.specs.Decoding.{EnoughLieOn}
+use Rattle.keyroom.specs.Check.{checked_by, MeansStatesOf, MeansStates}
+use Rattle.keyroom.proofs.Honest.{one_key, honest_end}
 
 -- the end of a check that belongs to an end of recovery
 abbrev pub without_key : Result Recovered Status → Result Checked Status
@@ -37,3 +39,10 @@ one_check name held a b p q =
     let h = comes_then name held (now_of name held) a refl p in
     let k = comes_then name held (now_of name held) b refl q in
     h.2 ∙ ap without_key (one_key name held h.0 k.0 h.1 k.1) ∙ sym k.2
+
+-- a check of the files of N - T honest members ends with the states by their polynomials
+pub honest_states : (name : List ℕ) (held : Held) (now : Now) (polys : List Polynomial) (end : Result Checked Status) → now_of name held ≡ Ok now →
+    EnoughLieOn now.n now.t (files_of now held) polys → MeansStates name held end → end ≡ Ok (checked_by now (files_of now held) polys)
+honest_states name held now polys end read enough means =
+    let h = comes_then name held (now_of name held) end refl means in
+    h.2 ∙ ap without_key (honest_end name held now polys h.0 read enough h.1)

@@ -1,11 +1,15 @@
 //! The check of a key's files, and the command `check NAME`.
-ghost use Rattle.std.specs.Prelude.{◌≡◌, [], IfOk, IfSome, IfErr};
+ghost use Rattle.std.specs.Prelude.{◌≡◌, List, [], Ok, IfOk, IfSome, IfErr};
+ghost use Rattle.algebra61.specs.Polynomial.{Polynomial};
 ghost use Rattle.shelf.specs.Causes.{OnlyReads};
+ghost use Rattle.sharefile.specs.Files.{Now};
+ghost use Rattle.keyroom.specs.Steps.{now_of, files_of};
+ghost use Rattle.keyroom.specs.Decoding.{EnoughLieOn};
 ghost use Rattle.keyroom.specs.Outcome.{IsFromPlan, Answers, done};
 ghost use Rattle.keyroom.specs.Changes.{outcome_of};
 ghost use Rattle.keyroom.specs.Texts.{check_text};
 ghost use Rattle.keyroom.specs.Answer.{Plans};
-ghost use Rattle.keyroom.specs.Check.{MeansStates, MeansCheck};
+ghost use Rattle.keyroom.specs.Check.{checked_by, MeansStates, MeansCheck};
 
 use crate::plan::Plan;
 use crate::recover::recover_key;
@@ -33,6 +37,9 @@ pub fn check_key<H: Shelf>(alloc: Global, shelf: &mut H, name: &KeyName) -> Resu
     ensures reads { OnlyReads H.held H.fault_count H.calm shelf.old shelf.new }
     // The answer is what the check of the files comes to, unless the shelf or memory failed.
     ensures means { IfSome (H.held shelf.old) (λ m. Answers (MeansStates name.now m) result) }
+    // Where N - T valid share files lie on polynomials of degree at most T, the states are those by these polynomials,
+    // whatever the other files are.
+    ensures honest { IfSome (H.held shelf.old) (λ m. (now : Now) (polys : List Polynomial) → now_of name.now m ≡ Ok now → EnoughLieOn now.n now.t (files_of now m) polys → Answers (λ end. end ≡ Ok (checked_by now (files_of now m) polys)) result) }
     // A fault comes only where its count rose, and no answer of other parts comes.
     ensures cause { IfErr result (IsFromPlan (H.fault_count shelf.old) (H.fault_count shelf.new)) }
 {

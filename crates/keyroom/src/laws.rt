@@ -17,7 +17,7 @@ ghost use Rattle.keyroom.specs.Open.{MeansOpened, MeansOpen};
 ghost use Rattle.keyroom.specs.Steps.{now_of, files_of};
 ghost use Rattle.keyroom.specs.Decoding.{EnoughLieOn, key_of};
 ghost use Rattle.keyroom.specs.Recover.{recovered_by, MeansKey};
-ghost use Rattle.keyroom.specs.Check.{MeansStates};
+ghost use Rattle.keyroom.specs.Check.{checked_by, MeansStates};
 
 /// Recovery of a key has one end: what the shelf holds fixes the key and the states, or the refusal.
 #[tactic(auto, using(crate::proofs::Honest::one_key))]
@@ -36,6 +36,13 @@ pub fn one_check()
 #[tactic(auto, using(crate::proofs::Honest::honest_end))]
 pub fn honest_files_give_the_key()
     ensures { (name : List ℕ) (held : Held) (now : Now) (polys : List Polynomial) (end : Result Recovered Status) → now_of name held ≡ Ok now → EnoughLieOn now.n now.t (files_of now held) polys → MeansKey name held end → end ≡ Ok (recovered_by now (files_of now held) polys) }
+{}
+
+/// Any N - T honest share files give the states: where N - T valid share files lie on polynomials of degree at most T, the
+/// check ends with the states by these polynomials, whatever the other files are.
+#[tactic(auto, using(crate::proofs::Checking::honest_states))]
+pub fn honest_files_give_the_states()
+    ensures { (name : List ℕ) (held : Held) (now : Now) (polys : List Polynomial) (end : Result Checked Status) → now_of name held ≡ Ok now → EnoughLieOn now.n now.t (files_of now held) polys → MeansStates name held end → end ≡ Ok (checked_by now (files_of now held) polys) }
 {}
 
 /// Sealing a document has one end: what the shelf holds fixes the number, the box and the changes, or the refusal.

@@ -20,8 +20,9 @@ mod work;
 pub use check::{Checked, check_key, plan_check};
 pub use command::{Command, read_words};
 pub use laws::{
-    a_box_is_opened, honest_files_give_the_key, honest_files_open_what_was_sealed, one_check,
-    one_opening, one_recovery, one_sealing, what_was_sealed_is_opened,
+    a_box_is_opened, honest_files_give_the_key, honest_files_give_the_states,
+    honest_files_open_what_was_sealed, one_check, one_opening, one_recovery, one_sealing,
+    what_was_sealed_is_opened,
 };
 pub use open::{open_doc, plan_open};
 pub use plan::{Change, Plan, carry_out, make_all};

@@ -19,25 +19,19 @@ use crate::status::{Status, What};
 use crate::steps::{Found, files_of};
 use crate::text;
 use crate::work::{Asked, Sealed, Work, asked_of, finish, push_put};
-use docvault::{BoxFault, unseal};
+use docvault::unseal_in_place;
 use field61::{Fe, OutOfMemory};
 use sharefile::KeyName;
 use shelf::Shelf;
 use std::alloc::Global;
 
 /// The number and the document of a box, or the status of its first fault.
-fn opened_under(
-    alloc: Global,
-    name: &KeyName,
-    bytes: &[u8],
-    lanes: &[Fe; 5],
-) -> Result<(u32, Vec<u8>), Status>
-    ensures gives { Unseals lanes.now name.now bytes.now result }
+fn opened_under(name: &KeyName, bytes: Vec<u8>, lanes: &[Fe; 5]) -> Result<(u32, Vec<u8>), Status>
+    ensures gives { Unseals lanes.now name.now bytes.items result }
     ensures cause { IfErr result (λ s. (before now : ℕ) → IsFromPlan before now s) }
 {
-    match unseal(alloc, lanes, name, bytes) {
+    match unseal_in_place(lanes, name, bytes) {
         Ok(opened) => Ok(opened),
-        Err(BoxFault::OutOfMemory) => Err(Status::OutOfMemory),
         Err(fault) => Err(Status::BadBox { fault }),
     }
 }
@@ -63,13 +57,13 @@ fn work_under(
     alloc: Global,
     name: &KeyName,
     target: &str,
-    asked: &Asked,
+    asked: Asked,
     lanes: &[Fe; 5],
 ) -> Result<Work, Status>
-    ensures means { AnswersAs work_of (OpensUnder name.now target.now (asked_in asked.now) lanes.now) result }
+    ensures means { AnswersAs work_of (OpensUnder name.now target.now (asked_in asked) lanes.now) result }
     ensures cause { IfErr result (λ s. (before now : ℕ) → IsFromPlan before now s) }
 {
-    let (number, document) = opened_under(alloc, name, &asked.bytes, lanes)?;
+    let (number, document) = opened_under(name, asked.bytes, lanes)?;
     Ok(work_with(alloc, target, number, document)?)
 }
 
@@ -78,11 +72,11 @@ fn work_from(
     alloc: Global,
     name: &KeyName,
     target: &str,
-    asked: &Asked,
+    asked: Asked,
     files: &[Found],
 ) -> Result<Work, Status>
-    requires { length files.now ≡ asked.now.file.n }
-    ensures means { AnswersAs work_of (OpensFrom MeansKeyOf name.now target.now (asked_in asked.now) files.now) result }
+    requires { length files.now ≡ asked.file.n }
+    ensures means { AnswersAs work_of (OpensFrom MeansKeyOf name.now target.now (asked_in asked) files.now) result }
     ensures cause { IfErr result (λ s. (before now : ℕ) → IsFromPlan before now s) }
 {
     let key = recovered_from(alloc, &asked.file, files)?;
@@ -103,7 +97,7 @@ fn open_work<H: Shelf>(
 {
     let asked = asked_of(alloc, name, target, What::Box, source, shelf)?;
     let files = files_of(alloc, &asked.file, shelf)?;
-    work_from(alloc, name, target, &asked, &files)
+    work_from(alloc, name, target, asked, &files)
 }
 
 /// Opens the box under the name `source` into a document under the name `target`.

@@ -22,7 +22,7 @@ use crate::status::{Status, What};
 use crate::steps::{Found, files_of};
 use crate::text;
 use crate::work::{Asked, Sealed, Work, asked_of, finish, push_put};
-use docvault::seal;
+use docvault::seal_in_place;
 use field61::{Fe, OutOfMemory};
 use sharefile::{KeyName, NowFile, write_now};
 use shelf::Shelf;
@@ -97,16 +97,16 @@ fn work_under(
     alloc: Global,
     name: &KeyName,
     target: &str,
-    asked: &Asked,
+    asked: Asked,
     lanes: &[Fe; 5],
 ) -> Result<Work, OutOfMemory>
-    requires room { asked.now.file.next_number < 4294967295 }
-    requires short { length asked.now.bytes.items ≤ 2 ^ 26 }
-    ensures { IfOk result (λ work. (bytes : List ℕ) × IsBox lanes.now name.now asked.now.file.next_number asked.now.bytes.items bytes × (work_of work ≡ seal_work name.now target.now (asked_in asked.now) bytes)) }
+    requires room { asked.file.next_number < 4294967295 }
+    requires short { length asked.bytes.items ≤ 2 ^ 26 }
+    ensures { IfOk result (λ work. (bytes : List ℕ) × IsBox lanes.now name.now asked.file.next_number asked.bytes.items bytes × (work_of work ≡ seal_work name.now target.now (asked_in asked) bytes)) }
 {
     let number = asked.file.next_number;
     let bytes = asked.bytes.len() as u64;
-    let sealed = seal(alloc, lanes, name, number, &asked.bytes)?;
+    let sealed = seal_in_place(lanes, name, number, asked.bytes)?;
     let changes = changes_with(alloc, name, target, &asked.file, sealed)?;
     let sealed = Sealed { number, bytes };
     Ok(Work { sealed, changes })
@@ -117,13 +117,13 @@ fn work_from(
     alloc: Global,
     name: &KeyName,
     target: &str,
-    asked: &Asked,
+    asked: Asked,
     files: &[Found],
 ) -> Result<Work, Status>
-    requires count { length files.now ≡ asked.now.file.n }
-    requires room { asked.now.file.next_number < 4294967295 }
-    requires short { length asked.now.bytes.items ≤ 2 ^ 26 }
-    ensures means { AnswersAs work_of (SealsFrom MeansKeyOf name.now target.now (asked_in asked.now) files.now) result }
+    requires count { length files.now ≡ asked.file.n }
+    requires room { asked.file.next_number < 4294967295 }
+    requires short { length asked.bytes.items ≤ 2 ^ 26 }
+    ensures means { AnswersAs work_of (SealsFrom MeansKeyOf name.now target.now (asked_in asked) files.now) result }
     ensures cause { IfErr result (λ s. (before now : ℕ) → IsFromPlan before now s) }
 {
     let key = recovered_from(alloc, &asked.file, files)?;
@@ -145,7 +145,7 @@ fn seal_work<H: Shelf>(
     let asked = asked_of(alloc, name, target, What::Document, doc, shelf)?;
     check_sealable(&asked)?;
     let files = files_of(alloc, &asked.file, shelf)?;
-    work_from(alloc, name, target, &asked, &files)
+    work_from(alloc, name, target, asked, &files)
 }
 
 /// Seals the document under the name `doc` into a box under the name `target`, with the key's next number, which is
