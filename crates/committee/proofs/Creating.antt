@@ -21,7 +21,7 @@ use Rattle.keyroom.specs.Outcome.{Outcome, ThenDo}
 use Rattle.keyroom.specs.Steps.{free_step}
 use Rattle.committee.specs.Create.{Creates, first_now, drill_read, drill_step, drill_of, create_play}
 use Rattle.committee.specs.Answer.{Does}
-use Rattle.committee.specs.Meaning.{Given, Means}
+use Rattle.committee.specs.Meaning.{Given, Means, AskForSeeds}
 use Rattle.committee.specs.Agreement.{HeldOnOneLine, CreatesOnOneLine, MadeAll}
 use Rattle.committee.proofs.Phases.{proper_create, sound_in}
 use Rattle.committee.proofs.Agreement.{on_one_line}
@@ -86,12 +86,12 @@ told_line : (now : Now) (m : Held) (after_all : Held) → Some m ≡ Some after_
 told_line now m after_all e h = subst (HeldOnOneLine now) (cc (sym e)) h
 
 pub run_on_one_line : (words : List (List ℕ)) (coming comes : Option (List (List ℕ))) (told tells : Option (List ℕ)) (status : Status) (old new : Option Held) →
-    IfSome old (λ m. Does (Means words (record { held = m; coming = coming })) (record { held = old; coming = coming; told = told }) (record { held = new; coming = comes; told = tells }) status) →
+    IfSome old (λ m. Does (Means words (record { held = m; coming = coming })) (AskForSeeds words m) (record { held = old; coming = coming; told = told }) (record { held = new; coming = comes; told = tells }) status) →
     MadeAll status → IfSome old (λ before. IfSome new (λ m. (name : List ℕ) (n t : ℕ) (drill : Option (List ℕ)) → ReadsAs words (Create name n t drill) → HeldOnOneLine (first_now name n t) m))
 run_on_one_line words coming comes told tells status None new does made = tt
 run_on_one_line words coming comes told tells status (Some old) None does made = tt
 run_on_one_line words coming comes told tells status (Some old) (Some m) does made = λ name n t drill reads.
     let given : Given = record { held = old; coming = coming } in
-    let o = made_all (Means words given) (record { held = Some old; coming = coming; told = told }) (record { held = Some m; coming = comes; told = tells }) status made does in
+    let o = made_all (Means words given) (AskForSeeds words old) (record { held = Some old; coming = coming; told = told }) (record { held = Some m; coming = comes; told = tells }) status made does in
     let meant = meant_of words given (Create name n t drill) o.0 reads o.1 in
     told_line (first_now name n t) m (after o.0.changes old) o.3 (creates_on_one_line name n t drill old coming meant.0 o.0 reads.in_range meant.1 o.2)

@@ -5,7 +5,7 @@ use Rattle.keyroom.specs.declared.status.Status.{Status}
 use Rattle.keyroom.specs.Words.{Command, Recover, Check, Create, Seal, Open, IsInRange, optional, spelling, ReadsAs}
 use Rattle.keyroom.specs.Outcome.{Outcome, done, ThenDo, AreFirst}
 use Rattle.keyroom.specs.Recover.{MeansRecover, recover_outcome, recovered_by}
-use Rattle.keyroom.specs.Check.{MeansCheck, check_outcome}
+use Rattle.keyroom.specs.Check.{MeansCheck, check_outcome, checked_by}
 use Rattle.std.proofs.lemmas.List.{take_at}
 use Rattle.algebra61.specs.Polynomial.{Polynomial}
 use Rattle.sharefile.specs.Files.{Now, is_size, is_bound}
@@ -13,14 +13,14 @@ use Rattle.std.specs.Prelude.{decimal}
 use Rattle.std.proofs.lemmas.Bool.Decides.{nat_tests}
 use Rattle.std.proofs.lemmas.Fmt.{decimal_injective}
 use Rattle.keyroom.specs.Decoding.{EnoughLieOn}
-use Rattle.keyroom.specs.Texts.{recover_text}
+use Rattle.keyroom.specs.Texts.{recover_text, check_text}
 use Rattle.keyroom.specs.Names.{now_name}
 use Rattle.keyroom.specs.Steps.{free_of, now_of, files_of}
 use Rattle.jointkey.specs.Create.{create_shape}
 use Rattle.drillbook.specs.declared.order.Order.{Order}
 use Rattle.committee.specs.Create.{Creates, first_now, create_outcome, create_play, drill_of}
 use Rattle.keyroom.proofs.Honest.{one_key, honest_end}
-use Rattle.keyroom.proofs.Checking.{one_check}
+use Rattle.keyroom.proofs.Checking.{one_check, honest_states}
 use Rattle.keyroom.proofs.Working.{one_sealing, one_opening, honest_sealing, honest_opening}
 use Rattle.keyroom.specs.Work.{KeyIsOf}
 use Rattle.keyroom.specs.Seal.{MeansSeal, SealCommandBy, seal_outcome}
@@ -125,7 +125,7 @@ one_end (Check name) given masks other a b p q = ap (λ (o : Outcome). o.status)
 one_end (Seal name doc target) given masks other a b p q = ap (λ (o : Outcome). o.status) (one_sealed name doc target given.held a b p q)
 one_end (Open name source target) given masks other a b p q = ap (λ (o : Outcome). o.status) (one_opened name source target given.held a b p q)
 
-same_command : (words : List (List ℕ)) (a b : Command) → ReadsAs words a → ReadsAs words b → a ≡ b
+pub same_command : (words : List (List ℕ)) (a b : Command) → ReadsAs words a → ReadsAs words b → a ≡ b
 same_command words a b h k = one_command a b h.in_range k.in_range (sym h.words_are ∙ k.words_are)
 
 pub one_meaning : (words : List (List ℕ)) (given : Given) (masks : List ℕ) (a b : Outcome) → IsSome given.coming → MeansUnder masks words given a → MeansUnder masks words given b → a ≡ b
@@ -156,6 +156,13 @@ pub honest_recover : (words : List (List ℕ)) (name : List ℕ) (given : Given)
 honest_recover words name given now polys outcome reads read h means =
     let meant : MeansRecover name given.held outcome = (meant_of words given (Recover name) outcome reads means).1 in
     meant.2 ∙ ap recover_outcome (honest_end name given.held now polys meant.0 read h meant.1)
+
+-- and their states are told
+pub honest_check : (words : List (List ℕ)) (name : List ℕ) (given : Given) (now : Now) (polys : List Polynomial) (outcome : Outcome) → ReadsAs words (Check name) → now_of name given.held ≡ Ok now →
+    EnoughLieOn now.n now.t (files_of now given.held) polys → Means words given outcome → outcome ≡ done [] (check_text (checked_by now (files_of now given.held) polys))
+honest_check words name given now polys outcome reads read h means =
+    let meant : MeansCheck name given.held outcome = (meant_of words given (Check name) outcome reads means).1 in
+    meant.2 ∙ ap check_outcome (honest_states name given.held now polys meant.0 read h meant.1)
 
 -- documents are sealed and opened under the key that the files of N - T honest members have
 pub honest_seal : (words : List (List ℕ)) (name doc target : List ℕ) (given : Given) (now : Now) (polys : List Polynomial) (outcome : Outcome) → ReadsAs words (Seal name doc target) → now_of name given.held ≡ Ok now →

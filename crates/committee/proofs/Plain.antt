@@ -23,7 +23,7 @@ use Rattle.keyroom.specs.Steps.{free_step}
 use Rattle.committee.specs.Create.{AreMasks, Creates, create_play, create_changes, first_now, grids_on}
 use Rattle.committee.specs.Plain.{plain_share, HeldPlain}
 use Rattle.committee.specs.Answer.{Does}
-use Rattle.committee.specs.Meaning.{Given, Means}
+use Rattle.committee.specs.Meaning.{Given, Means, AskForSeeds}
 use Rattle.committee.specs.Agreement.{MadeAll}
 use Rattle.committee.proofs.Agreement.{lane_at, created_file}
 use Rattle.committee.proofs.Creating.{none_named, committee}
@@ -75,14 +75,14 @@ told_plain : (now : Now) (seeds : List (List ℕ)) (m after_all : Held) → Some
 told_plain now seeds m after_all e h = subst (HeldPlain now seeds) (cc (sym e)) h
 
 pub run_plain : (words : List (List ℕ)) (coming comes : Option (List (List ℕ))) (told tells : Option (List ℕ)) (status : Status) (old new : Option Held) →
-    IfSome old (λ m. Does (Means words (record { held = m; coming = coming })) (record { held = old; coming = coming; told = told }) (record { held = new; coming = comes; told = tells }) status) →
+    IfSome old (λ m. Does (Means words (record { held = m; coming = coming })) (AskForSeeds words m) (record { held = old; coming = coming; told = told }) (record { held = new; coming = comes; told = tells }) status) →
     MadeAll status → IfSome old (λ before. IfSome new (λ m. IfSome coming (λ seeds. (name : List ℕ) (n t : ℕ) → ReadsAs words (Create name n t None) → HeldPlain (first_now name n t) (take n seeds) m)))
 run_plain words coming comes told tells status None new does made = tt
 run_plain words coming comes told tells status (Some old) None does made = tt
 run_plain words None comes told tells status (Some old) (Some m) does made = tt
 run_plain words (Some coming) comes told tells status (Some old) (Some m) does made = λ name n t reads.
     let given : Given = record { held = old; coming = Some coming } in
-    let o = made_all (Means words given) (record { held = Some old; coming = Some coming; told = told }) (record { held = Some m; coming = comes; told = tells }) status made does in
+    let o = made_all (Means words given) (AskForSeeds words old) (record { held = Some old; coming = Some coming; told = told }) (record { held = Some m; coming = comes; told = tells }) status made does in
     let meant = meant_of words given (Create name n t None) o.0 reads o.1 in
     told_plain (first_now name n t) (take n coming) m (after o.0.changes old) o.3
     (after_free name n t reads.in_range.1 reads.in_range.2 reads.in_range.0 coming meant.0 old o.0 o.2 (get old (now_name name)) meant.1)

@@ -37,16 +37,17 @@ pub record IsUntouched (before after : World) : Type 0 where
   pub held : after.held ≡ before.held
   pub told : after.told ≡ before.told
 
--- What was done of what the words mean. A refusal does nothing and takes no seed, and each other status carries out an
--- outcome that is Done, as far as `Carries` says. A fault of the shelf and want of memory may also come before anything
--- is done, and a fault of the entropy comes only then.
-abbrev pub Does : (Outcome → Type 0) → World → World → Status → Type 0
-Does means before after Done = (o : Outcome) × CarriedOut means before after Done o
-Does means before after SinkFault = (o : Outcome) × CarriedOut means before after SinkFault o
-Does means before after ShelfFault = IsUntouched before after ⊎ ((o : Outcome) × CarriedOut means before after ShelfFault o)
-Does means before after OutOfMemory = IsUntouched before after ⊎ ((o : Outcome) × CarriedOut means before after OutOfMemory o)
-Does means before after EntropyFault = IsUntouched before after
-Does means before after status = means (refused status) × (after ≡ before)
+-- What was done of what the words mean, where `asks` says whether they come to the step that takes seeds. A refusal does
+-- nothing and takes no seed, and each other status carries out an outcome that is Done, as far as `Carries` says. A fault
+-- of the shelf and want of memory may also come before anything is done. A fault of the entropy comes only then, and only
+-- where seeds are asked for.
+abbrev pub Does : (Outcome → Type 0) → Type 0 → World → World → Status → Type 0
+Does means asks before after Done = (o : Outcome) × CarriedOut means before after Done o
+Does means asks before after SinkFault = (o : Outcome) × CarriedOut means before after SinkFault o
+Does means asks before after ShelfFault = IsUntouched before after ⊎ ((o : Outcome) × CarriedOut means before after ShelfFault o)
+Does means asks before after OutOfMemory = IsUntouched before after ⊎ ((o : Outcome) × CarriedOut means before after OutOfMemory o)
+Does means asks before after EntropyFault = asks × IsUntouched before after
+Does means asks before after status = means (refused status) × (after ≡ before)
 
 -- only Done and a fault of the sink may have written something
 abbrev pub IsQuiet : Option (List ℕ) → Option (List ℕ) → Status → Type 0

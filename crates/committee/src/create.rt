@@ -1,5 +1,5 @@
 //! The command `create NAME N T`, with or without a drill.
-ghost use Rattle.std.specs.Prelude.{◌≡◌, ◌≤◌, ℕ, ◌*◌, List, length, string_bytes, IsTrue, IfOk, IfSome, IfErr, Option};
+ghost use Rattle.std.specs.Prelude.{◌≡◌, ◌≤◌, ℕ, ◌*◌, List, length, string_bytes, IsTrue, Err, IfOk, IfSome, IfErr, Option};
 ghost use Rattle.shelf.specs.Causes.{OnlyReads};
 ghost use Rattle.sharefile.specs.Names.{is_key_name};
 ghost use Rattle.sharefile.specs.Files.{is_size, is_bound};
@@ -12,6 +12,8 @@ ghost use Rattle.committee.specs.Answer.{PlansWith};
 ghost use Rattle.committee.specs.Causes.{IsFromSeededPlan};
 ghost use Rattle.jointkey.specs.Create.{create_shape};
 ghost use Rattle.committee.specs.Create.{create_play, AreMasks, create_outcome, MeansCreate};
+ghost use Rattle.committee.specs.Meaning.{TakesSeeds};
+ghost use Rattle.keyroom.specs.Words.{Create};
 ghost use Rattle.committee.specs.Phase.{changes_with, indexes_of};
 
 use crate::changes::{push_now, push_removals, push_shares};
@@ -112,6 +114,7 @@ pub(crate) fn plan_create<H: Shelf, E: Entropy>(
     requires bound { IsTrue (is_bound n t) }
     ensures reads { OnlyReads H.held H.fault_count H.calm shelf.old shelf.new }
     ensures meaning { IfSome (H.held shelf.old) (λ m. PlansWith (λ o. (masks : List ℕ) × MeansCreate name.now n t (text_of drill.entry) m (E.coming entropy.old) masks o) (E.coming entropy.old) (E.coming entropy.new) result) }
+    ensures asks { IfSome (H.held shelf.old) (λ m. result ≡ Err Status.EntropyFault → TakesSeeds (Create name.now n t (text_of drill.entry)) m) }
     ensures later { E.fault_count entropy.old ≤ E.fault_count entropy.new }
     ensures cause { IfErr result (IsFromSeededPlan (H.fault_count shelf.old) (H.fault_count shelf.new) (E.fault_count entropy.old) (E.fault_count entropy.new)) }
     ensures calm { E.calm entropy.old → IfSome (E.coming entropy.old) (λ seeds. n ≤ length seeds) → E.calm entropy.new }

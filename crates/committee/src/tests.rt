@@ -413,11 +413,30 @@ fn the_calls_seal_and_open(rt: HostRuntime) -> Result<(), Fail> {
     Ok(())
 }
 
-/// Runs words over a shelf that holds the drill `d` alone.
-fn drills(alloc: Global, texts: &[&str], drill: &str, line: &str, text: &str) -> Result<(), Fail> {
+/// A shelf that holds the drill `d` alone.
+fn shelf_with(alloc: Global, drill: &[u8]) -> Result<MemoryShelf, Fail> {
     let mut shelf = MemoryShelf::new(alloc, Vec::new(alloc));
-    shelf.put(alloc, "d", drill.as_bytes())?;
-    runs(alloc, &mut shelf, texts, line, text)
+    shelf.put(alloc, "d", drill)?;
+    Ok(shelf)
+}
+
+/// Runs words over a shelf that holds the drill `d` alone.
+fn drills(alloc: Global, texts: &[&str], drill: &str, text: &str) -> Result<(), Fail> {
+    let mut shelf = shelf_with(alloc, drill.as_bytes())?;
+    runs(alloc, &mut shelf, texts, "", text)
+}
+
+/// Runs `create k1 4 1 FILE` over a shelf that holds the drill `d` alone, and fails where another line is answered, a
+/// text is printed, or the shelf then holds anything else.
+fn refuses_drill(alloc: Global, file: &str, drill: &[u8], line: &str) -> Result<(), Fail> {
+    let mut shelf = shelf_with(alloc, drill)?;
+    let words = ["create", "k1", "4", "1", file];
+    runs(alloc, &mut shelf, &words, line, "")?;
+    let held = shelf.get(alloc, "d")?.ok_or("the drill")?;
+    if shelf.len() != 1 || held.as_slice() != drill {
+        return Err("a changed shelf".into());
+    }
+    Ok(())
 }
 
 #[test]
@@ -427,36 +446,60 @@ fn a_drilled_create_prints_who_was_heard_and_accepted(rt: HostRuntime) -> Result
     let text = "create k1 4 1 period 1\n\
         round 1 mask 15\nround 2 mask 15\nround 3 mask 15\nround 4 mask 15\nround 5 mask 15\n\
         accepted 20 of 20\nshares 1 3 4\n";
-    drills(alloc, &four, "2 1 skew 5", "", text)?;
+    drills(alloc, &four, "2 1 skew 5", text)?;
     let text = "create k1 4 1 period 1\n\
         round 1 mask 15\nround 2 mask 15\nround 3 mask 15\nround 4 mask 13\nround 5 mask 13\n\
         accepted 15 of 20\nshares 1 3 4\n";
-    drills(alloc, &four, "2 1 skew 5\n2 4 silent\n", "", text)?;
+    drills(alloc, &four, "2 1 skew 5\n2 4 silent\n", text)?;
     let text = "create k1 4 1 period 1\n\
         round 1 mask 15\nround 2 mask 15\nround 3 mask 15\nround 4 mask 15\nround 5 mask 15\n\
         accepted 20 of 20\nshares 1 2 4\n";
-    drills(alloc, &four, "3 3 accuse 1", "", text)?;
+    drills(alloc, &four, "3 3 accuse 1", text)?;
     let seven = ["create", "k1", "7", "2", "d"];
     let text = "create k1 7 2 period 1\n\
         round 1 mask 123\nround 2 mask 123\nround 3 mask 123\nround 4 mask 123\nround 5 mask 123\n\
         accepted 35 of 35\nshares 1 2 4 6 7\n";
-    drills(alloc, &seven, "3 1 silent\n5 5 veto\n", "", text)
+    drills(alloc, &seven, "3 1 silent\n5 5 veto\n", text)
 }
 
 #[test]
 fn a_drill_that_is_none_is_refused(rt: HostRuntime) -> Result<(), Fail> {
     let alloc = rt.alloc();
-    let words = ["create", "k1", "4", "1", "d"];
-    let many = "2 1 silent\n3 1 silent\n";
-    drills(alloc, &words, many, "refused 9 drill named 2 bound 1", "")?;
-    drills(alloc, &words, "2 5 skew 1", "refused 9 drill line 1", "")?;
-    drills(
-        alloc,
-        &words,
-        "5 1 silent",
-        "refused 9 drill stranger 5",
-        "",
-    )?;
-    let words = ["create", "k1", "4", "1", "e"];
-    drills(alloc, &words, "", "refused 3 nosuch drill", "")
+    let many = b"2 1 silent\n3 1 silent\n";
+    refuses_drill(alloc, "d", many, "refused 9 drill named 2 bound 1")?;
+    refuses_drill(alloc, "d", b"2 5 skew 1", "refused 9 drill line 1")?;
+    refuses_drill(alloc, "d", b"5 1 silent", "refused 9 drill stranger 5")?;
+    let twice = b"# who\n2 1 silent\n2 1 garble\n";
+    refuses_drill(alloc, "d", twice, "refused 9 drill line 3")?;
+    refuses_drill(alloc, "e", b"", "refused 3 nosuch drill")
+}
+
+#[test]
+fn a_drill_of_odd_bytes_is_refused(rt: HostRuntime) -> Result<(), Fail> {
+    let alloc = rt.alloc();
+    refuses_drill(alloc, "d", b"2 1 silent\r\n", "refused 9 drill line 1")?;
+    let least = b"18446744073709551615 1 silent";
+    let line = "refused 9 drill stranger 18446744073709551615";
+    refuses_drill(alloc, "d", least, line)?;
+    let more = b"18446744073709551616 1 silent";
+    refuses_drill(alloc, "d", more, "refused 9 drill line 1")
+}
+
+/// A megabyte of one byte, and a text behind it.
+fn megabyte(alloc: Global, byte: u8, end: &[u8]) -> Result<Vec<u8>, Fail> {
+    let mut text = Vec::new(alloc);
+    text.resize(1_048_576, byte)?;
+    text.extend_from_slice(end)?;
+    Ok(text)
+}
+
+#[test]
+fn a_drill_of_a_megabyte_is_refused_with_its_line(rt: HostRuntime) -> Result<(), Fail> {
+    let alloc = rt.alloc();
+    let one = megabyte(alloc, b'2', b"")?;
+    refuses_drill(alloc, "d", &one, "refused 9 drill line 1")?;
+    let idle = megabyte(alloc, b'#', b"\n\n2 6 silent")?;
+    refuses_drill(alloc, "d", &idle, "refused 9 drill line 3")?;
+    let empty = megabyte(alloc, b'\n', b"4 2 veto\n")?;
+    refuses_drill(alloc, "d", &empty, "refused 9 drill line 1048577")
 }

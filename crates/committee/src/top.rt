@@ -1,5 +1,5 @@
 //! The call that the program makes.
-ghost use Rattle.std.specs.Prelude.{◌≡◌, ◌≢◌, ◌≤◌, ◌↔◌, List, [], ℕ, length, take, Ok, None, IfSome, IsSome, IfErr, Option};
+ghost use Rattle.std.specs.Prelude.{◌≡◌, ◌≢◌, ◌≤◌, ◌↔◌, List, [], ℕ, length, take, Ok, Err, None, IfSome, IsSome, IfErr, Option};
 ghost use Rattle.algebra61.specs.Polynomial.{Polynomial};
 ghost use Rattle.sharefile.specs.Files.{Now};
 ghost use Rattle.shelf.specs.Causes.{OnlyReads, Rose};
@@ -14,10 +14,10 @@ ghost use Rattle.keyroom.specs.Work.{KeyIsOf};
 ghost use Rattle.keyroom.specs.Seal.{SealCommandBy};
 ghost use Rattle.keyroom.specs.Open.{OpenCommandBy};
 ghost use Rattle.committee.specs.Create.{first_now};
-ghost use Rattle.committee.specs.Meaning.{Given, MeansCommand, MeansUnder, Means, AreEnough, seeds_named};
+ghost use Rattle.committee.specs.Meaning.{Given, MeansCommand, MeansUnder, Means, TakesSeeds, AskForSeeds, AreEnough, seeds_named};
 ghost use Rattle.committee.specs.Agreement.{HeldOnOneLine, CreatesOnOneLine, MadeAll};
 ghost use Rattle.committee.specs.Plain.{HeldPlain};
-ghost use Rattle.committee.specs.Recovery.{EndsInText};
+ghost use Rattle.committee.specs.Recovery.{Honestly};
 ghost use Rattle.committee.specs.Answer.{PlansWith, Does, IsQuiet};
 ghost use Rattle.committee.specs.Causes.{IsFromSeededPlan};
 
@@ -38,6 +38,7 @@ fn plan<H: Shelf, E: Entropy>(
     requires { IsInRange (command_of command.now) }
     ensures reads { OnlyReads H.held H.fault_count H.calm shelf.old shelf.new }
     ensures meaning { IfSome (H.held shelf.old) (λ m. PlansWith (λ o. (masks : List ℕ) × MeansCommand (command_of command.now) (record { held = m; coming = E.coming entropy.old }) masks o) (E.coming entropy.old) (E.coming entropy.new) result) }
+    ensures asks { IfSome (H.held shelf.old) (λ m. result ≡ Err Status.EntropyFault → TakesSeeds (command_of command.now) m) }
     ensures later { E.fault_count entropy.old ≤ E.fault_count entropy.new }
     ensures cause { IfErr result (IsFromSeededPlan (H.fault_count shelf.old) (H.fault_count shelf.new) (E.fault_count entropy.old) (E.fault_count entropy.new)) }
     ensures calm { E.calm entropy.old → IfSome (E.coming entropy.old) (λ seeds. seeds_named (command_of command.now) ≤ length seeds) → E.calm entropy.new }
@@ -64,8 +65,8 @@ fn plan<H: Shelf, E: Entropy>(
 ///
 /// `Done`: all of it was done. `SinkFault`: all changes were made, and a part of the text from its front may have gone
 /// out. `ShelfFault` and `OutOfMemory`: a part of the changes from their front was made, and nothing went out. Each other
-/// answer leaves the shelf and the sink as they were, and each but `EntropyFault` is exactly what the words and the files
-/// mean.
+/// answer leaves the shelf and the sink as they were. `EntropyFault` comes only where a create has come to its seeds, and
+/// each further answer is exactly what the words and the files mean.
 pub fn run<H: Shelf, E: Entropy, K: Sink>(
     alloc: Global,
     words: &[String],
@@ -75,7 +76,7 @@ pub fn run<H: Shelf, E: Entropy, K: Sink>(
 ) -> Status
     // What the words mean is done, or a part of it where the outside or memory fails.
     ensures meaning { IfSome (H.held shelf.old) (λ m.
-        Does (Means (texts words.now) (record { held = m; coming = E.coming entropy.old }))
+        Does (Means (texts words.now) (record { held = m; coming = E.coming entropy.old })) (AskForSeeds (texts words.now) m)
         (record { held = H.held shelf.old; coming = E.coming entropy.old; told = K.told out.old })
         (record { held = H.held shelf.new; coming = E.coming entropy.new; told = K.told out.new }) result) }
     // After a create the share files of the key lie, in each lane, on one polynomial of degree at most T, whatever the
@@ -85,10 +86,13 @@ pub fn run<H: Shelf, E: Entropy, K: Sink>(
     // Without a drill each share is the sum over all members of what the grids that they draw from their seeds say.
     ensures plain { MadeAll result → IfSome (H.held shelf.old) (λ old. IfSome (H.held shelf.new) (λ m. IfSome (E.coming entropy.old) (λ seeds.
         (name : List ℕ) (n t : ℕ) → ReadsAs (texts words.now) (Create name n t None) → HeldPlain (first_now name n t) (take n seeds) m))) }
-    // Any N - T honest share files recover the key, whatever the other files are: no other text goes out.
+    // Any N - T honest share files are enough, whatever the other files are: the key that is recovered, under which a
+    // document is sealed or opened, is what they say, and so are the members' states.
     ensures honest { IfSome (H.held shelf.old) (λ m.
-        (name : List ℕ) (now : Now) (polys : List Polynomial) → ReadsAs (texts words.now) (Recover name) → now_of name m ≡ Ok now → EnoughLieOn now.n now.t (files_of now m) polys →
-        EndsInText (recover_text (recovered_by now (files_of now m) polys)) (K.told out.old) (K.told out.new) result) }
+        (name : List ℕ) (now : Now) (polys : List Polynomial) → now_of name m ≡ Ok now → EnoughLieOn now.n now.t (files_of now m) polys →
+        Honestly (texts words.now) name now polys m
+        (record { held = H.held shelf.old; coming = E.coming entropy.old; told = K.told out.old })
+        (record { held = H.held shelf.new; coming = E.coming entropy.new; told = K.told out.new }) result) }
     // A refusal writes nothing.
     ensures quiet { IsQuiet (K.told out.old) (K.told out.new) result }
     // Usage is answered exactly where the words are no command.
