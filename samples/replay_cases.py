@@ -1049,6 +1049,7 @@ def create_cases():
     yield Case("create_three_seeds", words, left, seeds[:3])
     for number in (0, 1, 2, 3, 4):
         yield Case(f"create_entropy_fails_{number}", words, None, seeds, entropy=[number])
+    yield Case("create_exists_where_entropy_fails", words, {"k1.now": b"x"}, seeds, entropy=[0, 1])
     yield Case("create_entropy_fails_later", words, None, seeds + seeds, entropy=[4, 5, 7])
     for number in (0, 1, 7, 15, 16, 17, 19, 20, 21):
         yield Case(f"create_shelf_fails_{number}", words, left, seeds, shelf=[number])
@@ -1118,6 +1119,7 @@ def drill_cases():
     yield drilled("7_one_accuses_at_bound_1", 7, 1, "7 3 accuse 1")
     yield drilled("5_skewed_cross", 5, 1, "5 2 skew 1")
     yield drilled("10_three", 10, 3, "1 1 skew 2", "1 4 skew 2", "5 3 accuse 1", "10 4 late")
+    yield drilled("13_four_garbled_crosses", 13, 4, "1 2 garble", "2 2 garble", "3 2 garble", "4 2 garble")
     yield drilled("13_four", 13, 4, "1 1 skew 3", "4 3 accuse 1", "8 5 veto", "12 2 garble", "12 4 silent")
     words, held = "create k1 4 1 d", {"d": b"2 1 skew 5\n"}
     seeds = seeds_for("drill 4 1", 4)
@@ -1125,6 +1127,8 @@ def drill_cases():
     yield Case("drill_check_after_skew", "check k1", Case("", words, held, seeds).after())
     yield Case("drill_recover_after_skew", "recover k1", Case("", words, held, seeds).after())
     yield Case("drill_entropy_fails_3", words, held, seeds, entropy=[3])
+    yield Case("drill_missing_where_entropy_fails", "create k1 4 1 e", held, seeds, entropy=[0, 1])
+    yield Case("drill_line_where_entropy_fails", words, {"d": b"2 1 skew 5\n2 6 silent\n"}, seeds, entropy=[0, 1])
     for number in (0, 1, 2, 16, 17, 19, 20, 21):
         yield Case(f"drill_shelf_fails_{number}", words, held, seeds, shelf=[number])
     yield Case("drill_sink_fails_0", words, held, seeds, sink=[0])
@@ -1266,6 +1270,7 @@ def seal_cases():
         yield Case(f"seal_shelf_fails_{number}", "seal k1 letter.txt letter.box", files, shelf=[number])
     yield Case("seal_shelf_fails_9", "seal k1 letter.txt letter.box", files, shelf=[9])
     yield Case("seal_sink_fails_0", "seal k1 letter.txt letter.box", files, sink=[0])
+    yield Case("seal_takes_no_seed", "seal k1 letter.txt letter.box", files, seeds_for("none", 2), entropy=[0, 1])
 
 
 def open_cases():
@@ -1276,6 +1281,7 @@ def open_cases():
     box = box_bytes(lanes, "k1", 7, doc)
     sealed = Case("", "seal k1 doc box", Key(4, 1).plus(doc=doc).files).after()
     yield Case("open_sealed", "open k1 box out", sealed)
+    yield Case("open_takes_no_seed", "open k1 box out", sealed, seeds_for("none", 2), entropy=[0, 1])
     yield Case("open_sealed_twice", "open k1 box out", Case("", "open k1 box out", sealed).after())
     yield Case("open", "open k1 box out", Key(4, 1).plus(box=box).files)
     yield Case("open_with_one_wrong", "open k1 box out", Key(4, 1).plus(box=box).wrong(4, lane=1).files)
