@@ -1,9 +1,11 @@
 #!/bin/sh
 # Seals and opens a document of 2^26 bytes with the program, and beside it makes and checks the same kind of bytes with
-# openssl: ChaCha20 over the document and HMAC over what came out of it. Prints the processor time and the most memory of
-# each, and the ratios. No part of the gate; skipped where openssl, python3 or the program is missing.
-# usage: bench/documents.sh [BYTES]
+# openssl: ChaCha20 over the document and HMAC over what came out of it. Both are run in turn, some rounds of them. Prints
+# the least processor time and the most memory of each, and the ratios. No part of the gate; skipped where openssl, python3
+# or the program is missing.
+# usage: bench/documents.sh [BYTES [ROUNDS]]
 bytes=${1:-67108864}
+rounds=${2:-9}
 top=$(CDPATH='' cd -- "$(dirname -- "$0")/.." && pwd) || exit 1
 program=$top/crates/committee_cli/out/committee_cli
 [ -x "$program" ] || { echo "bench: no program (build it by rt ci, or ./committee): skipped"; exit 0; }
@@ -17,36 +19,43 @@ head -c "$bytes" /dev/urandom >plain.txt
 key=$(head -c 32 /dev/urandom | od -An -v -tx1 | tr -d ' \n')
 nonce=00000000000000000000000000000000
 
-# milliseconds of processor time and kilobytes of memory of one command line
+# Runs the four command lines in turn, as often as there are rounds, and prints for each the least milliseconds of
+# processor time and the most kilobytes of memory.
 cat >measure.py <<'END'
-import resource, subprocess, sys
-status = subprocess.call(["sh", "-c", sys.argv[1]], stdout=subprocess.DEVNULL)
-used = resource.getrusage(resource.RUSAGE_CHILDREN)
-if status != 0:
-    sys.exit(status)
-print(round(1000 * (used.ru_utime + used.ru_stime)), used.ru_maxrss)
+import os, resource, subprocess, sys
+rounds, lines = int(sys.argv[1]), sys.argv[2:]
+least, most = [None] * len(lines), [0] * len(lines)
+for _ in range(rounds):
+    for at, line in enumerate(lines):
+        child = subprocess.Popen(["sh", "-c", line], stdout=subprocess.DEVNULL)
+        _, status, used = os.wait4(child.pid, 0)
+        if status != 0:
+            sys.exit("bench: failed: " + line)
+        spent = 1000 * (used.ru_utime + used.ru_stime)
+        least[at] = spent if least[at] is None else min(least[at], spent)
+        most[at] = max(most[at], used.ru_maxrss)
+for spent, memory in zip(least, most):
+    print(round(spent), memory)
 END
-measure() { python3 measure.py "$1"; }
 mac() { echo "openssl dgst -sha256 -mac HMAC -macopt hexkey:$key $1"; }
 
-measure "'$program' create k1 4 1" >/dev/null || { echo "bench: create failed" >&2; exit 1; }
-seal=$(measure "'$program' seal k1 plain.txt plain.box") || { echo "bench: seal failed" >&2; exit 1; }
-open=$(measure "'$program' open k1 plain.box out.txt") || { echo "bench: open failed" >&2; exit 1; }
+"$program" create k1 4 1 >/dev/null || { echo "bench: create failed" >&2; exit 1; }
+python3 measure.py "$rounds" \
+  "rm -f plain.box && '$program' seal k1 plain.txt plain.box" \
+  "openssl enc -chacha20 -K $key -iv $nonce -in plain.txt -out sealed.bin && $(mac sealed.bin)" \
+  "rm -f out.txt && '$program' open k1 plain.box out.txt" \
+  "$(mac sealed.bin) && openssl enc -d -chacha20 -K $key -iv $nonce -in sealed.bin -out back.txt" >figures.txt || exit 1
 cmp -s plain.txt out.txt || { echo "bench: another document came out" >&2; exit 1; }
-theirs_seal=$(measure "openssl enc -chacha20 -K $key -iv $nonce -in plain.txt -out sealed.bin && $(mac sealed.bin)") ||
-  { echo "bench: openssl failed" >&2; exit 1; }
-theirs_open=$(measure "$(mac sealed.bin) && openssl enc -d -chacha20 -K $key -iv $nonce -in sealed.bin -out back.txt") ||
-  { echo "bench: openssl failed" >&2; exit 1; }
 
 # one line: what, our milliseconds and kilobytes, theirs
 report() {
   what=$1
   shift
-  echo "$what of $bytes bytes: $1 ms and $2 kB, openssl $3 ms and $4 kB"
+  echo "$what of $bytes bytes: $1 ms and $2 kB, openssl $3 ms and $4 kB, the least and the most of $rounds runs"
   [ "$3" -gt 0 ] && echo "$what ratio in hundredths: time $((100 * $1 / $3)), memory $((100 * $2 / $4))"
   return 0
 }
-# shellcheck disable=SC2086
-report seal $seal $theirs_seal
-# shellcheck disable=SC2086
-report open $open $theirs_open
+# shellcheck disable=SC2046
+report seal $(sed -n 1,2p figures.txt)
+# shellcheck disable=SC2046
+report open $(sed -n 3,4p figures.txt)
