@@ -20,7 +20,8 @@ key=$(head -c 32 /dev/urandom | od -An -v -tx1 | tr -d ' \n')
 nonce=00000000000000000000000000000000
 
 # Runs the four command lines in turn, as often as there are rounds, and prints for each the least milliseconds of
-# processor time and the most kilobytes of memory.
+# processor time and the most kilobytes of memory; what needs less memory than this measuring process (about 14,000 kB)
+# shows as that.
 cat >measure.py <<'END'
 import os, resource, subprocess, sys
 rounds, lines = int(sys.argv[1]), sys.argv[2:]
