@@ -478,11 +478,11 @@ fn a_drill_that_is_none_is_refused(rt: HostRuntime) -> Result<(), Fail> {
 fn a_drill_of_odd_bytes_is_refused(rt: HostRuntime) -> Result<(), Fail> {
     let alloc = rt.alloc();
     refuses_drill(alloc, "d", b"2 1 silent\r\n", "refused 9 drill line 1")?;
-    let least = b"18446744073709551615 1 silent";
+    let greatest = b"18446744073709551615 1 silent";
     let line = "refused 9 drill stranger 18446744073709551615";
-    refuses_drill(alloc, "d", least, line)?;
-    let more = b"18446744073709551616 1 silent";
-    refuses_drill(alloc, "d", more, "refused 9 drill line 1")
+    refuses_drill(alloc, "d", greatest, line)?;
+    let greater = b"18446744073709551616 1 silent";
+    refuses_drill(alloc, "d", greater, "refused 9 drill line 1")
 }
 
 /// A megabyte of one byte, and a text behind it.
