@@ -4,7 +4,7 @@ use Rattle.algebra61.specs.Inverse.{invₚ}
 use Rattle.algebra61.specs.Field.{Prime, Fp, fe, ◌+ₚ◌, ◌*ₚ◌, ◌-ₚ◌, negₚ, zeroₚ, oneₚ}
 use Rattle.algebra61.specs.Poly.{eval, coeff, AllZero, Outside, Distinct, AllRoots, add_list, scale_list, mul_list}
 use Rattle.algebra61.specs.Trim.{trim, put_front, unless_zero}
-use Rattle.algebra61.specs.Grid.{grid_at}
+use Rattle.algebra61.specs.Grid.{grid_at, add_product}
 use Rattle.algebra61.proofs.Ring.{num-fe_small, mul_zero, zero_mul, add_zero, sub_self, dif-same, difs, by_dif4, by_dif6, mul_commut}
 use Rattle.algebra61.proofs.Inverse.{mul_invₚ, other_zero, num-zero}
 use Rattle.algebra61.proofs.PolyOps.{sub_list, eval-sub, eval-add, eval-scale, length-sub}
@@ -90,12 +90,7 @@ scaled_roots k p (x ∷ xs) a = (eval-scale k p x ∙ ap (λ y. k *ₚ y) a.0 �
 pub vanisher_roots : (rs : List Fp) → AllRoots (vanisher rs) rs
 vanisher_roots rs = scaled_roots _ (vanish rs) rs (vanish_roots rs)
 
--- ---- a product of a polynomial in x and one in y, added to a grid
-abbrev pub add_product : List (List Fp) → List Fp → List Fp → List (List Fp)
-add_product g [] v = g
-add_product [] (a ∷ u) v = scale_list a v ∷ add_product [] u v
-add_product (p ∷ ps) (a ∷ u) v = add_list p (scale_list a v) ∷ add_product ps u v
-
+-- ---- the values of a grid with a product added
 product_ring : (p a v x g u : Fp) → (p +ₚ a *ₚ v) +ₚ x *ₚ (g +ₚ u *ₚ v) ≡ (p +ₚ x *ₚ g) +ₚ (a +ₚ x *ₚ u) *ₚ v
 product_ring = by_dif6 _ (λ m n k l i j. simp difs (dif-same _ _ _ _ (omega arith)))
 

@@ -1,21 +1,21 @@
--- A further member that agrees with enough members is on their grid; and what adding a product changes.
+-- A further holder that agrees with enough holders is on their grid; and what adding a product changes.
 use Rattle.std.proofs.Common.{◌≡◌, suc, ◌≤◌, List, [], ◌∷◌, length, refl, sym, ap, ◌∙◌, arith}
 use Rattle.algebra61.specs.Field.{Fp, ◌+ₚ◌, ◌-ₚ◌, zeroₚ, oneₚ}
 use Rattle.algebra61.specs.Poly.{eval, Distinct, AllRoots}
 pub use Rattle.algebra61.specs.Grid.{FacedBy}
-use Rattle.algebra61.specs.Grid.{row, column, grid_at, AllShort, Member, Facing, members, OnGrid, AllOnGrid}
+use Rattle.algebra61.specs.Grid.{row, column, grid_at, AllShort, Holder, Facing, holder_points, OnGrid, AllOnGrid, add_product}
 use Rattle.algebra61.proofs.Ring.{sub_self, mul_zero, zero_mul, one_mul, add_zero}
 use Rattle.algebra61.proofs.PolyOps.{sub_list, eval-sub}
-use Rattle.algebra61.proofs.Grid.{eval-column, length-column, same_everywhere, length-members}
-use Rattle.algebra61.proofs.Ext.{add_product, at_add_product}
+use Rattle.algebra61.proofs.Grid.{eval-column, length-column, same_everywhere, length-holder_points}
+use Rattle.algebra61.proofs.Ext.{at_add_product}
 
-down_roots : (g : List (List Fp)) (m : Member) (ms : List Member) → AllOnGrid g ms → Facing m ms → AllRoots (sub_list (column g m.at) m.down) (members ms)
+down_roots : (g : List (List Fp)) (m : Holder) (ms : List Holder) → AllOnGrid g ms → Facing m ms → AllRoots (sub_list (column g m.at) m.down) (holder_points ms)
 down_roots g m [] o f = tt
 down_roots g m (n ∷ ns) o f =
     let here : eval (column g m.at) n.at ≡ eval m.down n.at = eval-column g m.at n.at ∙ o.0.across m.at ∙ f.0 in
     (eval-sub (column g m.at) m.down n.at ∙ ap (λ v. v -ₚ eval m.down n.at) here ∙ sub_self (eval m.down n.at), down_roots g m ns o.1 f.1)
 
-across_roots : (g : List (List Fp)) (m : Member) (ms : List Member) → AllOnGrid g ms → FacedBy m ms → AllRoots (sub_list (row g m.at) m.across) (members ms)
+across_roots : (g : List (List Fp)) (m : Holder) (ms : List Holder) → AllOnGrid g ms → FacedBy m ms → AllRoots (sub_list (row g m.at) m.across) (holder_points ms)
 across_roots g m [] o f = tt
 across_roots g m (n ∷ ns) o f =
     let here : eval (row g m.at) n.at ≡ eval m.across n.at = sym (eval-column g n.at m.at) ∙ o.0.down m.at ∙ f.0 in
@@ -25,11 +25,11 @@ length-row : (g : List (List Fp)) (i : Fp) → length (row g i) ≡ length g
 length-row [] i = refl
 length-row (p ∷ ps) i = ap suc (length-row ps i)
 
-pub further : (g : List (List Fp)) (m : Member) (ms : List Member) → Distinct (members ms) → length g ≤ length ms → AllShort (length ms) g → AllOnGrid g ms →
+pub further : (g : List (List Fp)) (m : Holder) (ms : List Holder) → Distinct (holder_points ms) → length g ≤ length ms → AllShort (length ms) g → AllOnGrid g ms →
     length m.across ≤ length ms → length m.down ≤ length ms → Facing m ms → FacedBy m ms → OnGrid g m
 further g m ms d lg sg o la ld f b = record {
-  across = same_everywhere (row g m.at) m.across (members ms) d (omega (arith, length-row g m.at, length-members ms)) (omega (arith, length-members ms)) (across_roots g m ms o b);
-  down = same_everywhere (column g m.at) m.down (members ms) d (omega (arith, length-column (length ms) g m.at sg, length-members ms)) (omega (arith, length-members ms)) (down_roots g m ms o f);
+  across = same_everywhere (row g m.at) m.across (holder_points ms) d (omega (arith, length-row g m.at, length-holder_points ms)) (omega (arith, length-holder_points ms)) (across_roots g m ms o b);
+  down = same_everywhere (column g m.at) m.down (holder_points ms) d (omega (arith, length-column (length ms) g m.at sg, length-holder_points ms)) (omega (arith, length-holder_points ms)) (down_roots g m ms o f);
 }
 
 -- ---- what adding u (x) * v (y) changes

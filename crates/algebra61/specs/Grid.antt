@@ -17,6 +17,12 @@ column (p ∷ ps) i = add_list p (scale_list i (column ps i))
 abbrev pub grid_at : List (List Fp) → Fp → Fp → Fp
 grid_at g x y = eval (row g y) x
 
+-- the grid with the product of a polynomial in x and one in y added
+abbrev pub add_product : List (List Fp) → List Fp → List Fp → List (List Fp)
+add_product g [] v = g
+add_product [] (a ∷ u) v = scale_list a v ∷ add_product [] u v
+add_product (p ∷ ps) (a ∷ u) v = add_list p (scale_list a v) ∷ add_product ps u v
+
 -- no list has more than n entries
 abbrev pub AllShort : ℕ → List (List Fp) → Type 0
 AllShort n [] = Unit {0}
@@ -27,43 +33,43 @@ pub record Degree (d : ℕ) (g : List (List Fp)) : Type 0 where
   pub in_x : length g ≤ d + 1
   pub in_y : AllShort (d + 1) g
 
--- a member: its point, a row and a column
-pub record Member : Type 0 where
+-- who holds a row and a column at a point
+pub record Holder : Type 0 where
   pub at : Fp
   pub across : List Fp
   pub down : List Fp
 
--- what each of ms says of m, its row at m, is m's column there
-abbrev pub Facing : Member → List Member → Type 0
+-- what each of the others says of a holder, its row at the holder's point, is the holder's column there
+abbrev pub Facing : Holder → List Holder → Type 0
 Facing m [] = Unit {0}
 Facing m (n ∷ ns) = (eval n.across m.at ≡ eval m.down n.at) × Facing m ns
 
--- each of ms has at m's point, in its column, what m's row has at its point
-abbrev pub FacedBy : Member → List Member → Type 0
+-- each of the others has at the holder's point, in its column, what the holder's row has at its point
+abbrev pub FacedBy : Holder → List Holder → Type 0
 FacedBy m [] = Unit {0}
 FacedBy m (n ∷ ns) = (eval n.down m.at ≡ eval m.across n.at) × FacedBy m ns
 
--- what the members say of one another agrees wherever two of them cross
-abbrev pub EachFacing : List Member → List Member → Type 0
+-- what the holders say of the others agrees wherever two of them cross
+abbrev pub EachFacing : List Holder → List Holder → Type 0
 EachFacing [] ns = Unit {0}
 EachFacing (m ∷ ms) ns = Facing m ns × EachFacing ms ns
 
--- the members' points
-abbrev pub members : List Member → List Fp
-members [] = []
-members (m ∷ ms) = m.at ∷ members ms
+-- the holders' points
+abbrev pub holder_points : List Holder → List Fp
+holder_points [] = []
+holder_points (m ∷ ms) = m.at ∷ holder_points ms
 
--- each member's row and column have at most n coefficients
-abbrev pub AllWithin : ℕ → List Member → Type 0
+-- each holder's row and column have at most n coefficients
+abbrev pub AllWithin : ℕ → List Holder → Type 0
 AllWithin n [] = Unit {0}
 AllWithin n (m ∷ ms) = ((length m.across ≤ n) × (length m.down ≤ n)) × AllWithin n ms
 
--- m's row and column are those of the grid
-pub record OnGrid (g : List (List Fp)) (m : Member) : Type 0 where
+-- a holder's row and column are those of the grid
+pub record OnGrid (g : List (List Fp)) (m : Holder) : Type 0 where
   pub across : (x : Fp) → eval (row g m.at) x ≡ eval m.across x
   pub down : (y : Fp) → eval (column g m.at) y ≡ eval m.down y
 
--- each member's row and column are those of the grid
-abbrev pub AllOnGrid : List (List Fp) → List Member → Type 0
+-- each holder's row and column are those of the grid
+abbrev pub AllOnGrid : List (List Fp) → List Holder → Type 0
 AllOnGrid g [] = Unit {0}
 AllOnGrid g (m ∷ ms) = OnGrid g m × AllOnGrid g ms

@@ -9,7 +9,7 @@ ghost use Rattle.algebra61.specs.Poly.{eval, points, Point, AllZero, AllRoots, D
 ghost use Rattle.algebra61.specs.Trim.{trim};
 ghost use Rattle.algebra61.specs.Polynomial.{Polynomial};
 ghost use Rattle.algebra61.specs.Nearest.{IsNearest, IsRight, Named, wrong, missing};
-ghost use Rattle.algebra61.specs.Grid.{Member, Degree, AllShort, AllOnGrid, AllWithin, EachFacing, Facing, FacedBy, OnGrid, members};
+ghost use Rattle.algebra61.specs.Grid.{Holder, Degree, AllShort, AllOnGrid, AllWithin, EachFacing, Facing, FacedBy, OnGrid, holder_points};
 
 /// Every element but 0 has an inverse: the numbers modulo a prime are a field.
 #[tactic(auto, using(crate::proofs::Inverse::inverse_rules))]
@@ -50,16 +50,16 @@ pub fn nearest_by_right()
     ensures { (t : ℕ) (vs : List (Option Fp)) (p : Polynomial) (js : List ℕ) → 3 * t < length vs → length p.coeffs ≤ t + 1 → length js ≤ t → ((i : ℕ) → i < length vs → Named (i + 1) js ⊎ IsRight p.coeffs vs i) → IsNearest t vs p }
 {}
 
-/// As many members as a grid has coefficients in each variable, whose rows and columns agree
+/// As many holders as a grid has coefficients in each variable, whose rows and columns agree
 /// wherever two of them cross, lie on one grid: a bivariate polynomial by its crossing points.
 #[tactic(auto, using(crate::proofs::Grid::crossing))]
 pub fn crossing()
-    ensures { (d : ℕ) (ms : List Member) → length ms ≡ d + 1 → Distinct (members ms) → AllWithin (d + 1) ms → EachFacing ms ms → (g : List (List Fp)) × Degree d g × AllOnGrid g ms }
+    ensures { (d : ℕ) (holders : List Holder) → length holders ≡ d + 1 → Distinct (holder_points holders) → AllWithin (d + 1) holders → EachFacing holders holders → (g : List (List Fp)) × Degree d g × AllOnGrid g holders }
 {}
 
-/// A further member that agrees with so many members of a grid, row against column both ways, is
+/// A further holder that agrees with so many holders of a grid, row against column both ways, is
 /// on the grid too.
 #[tactic(auto, using(crate::proofs::Further::further))]
-pub fn further_member()
-    ensures { (g : List (List Fp)) (m : Member) (ms : List Member) → Distinct (members ms) → length g ≤ length ms → AllShort (length ms) g → AllOnGrid g ms → length m.across ≤ length ms → length m.down ≤ length ms → Facing m ms → FacedBy m ms → OnGrid g m }
+pub fn further_holder()
+    ensures { (g : List (List Fp)) (further : Holder) (holders : List Holder) → Distinct (holder_points holders) → length g ≤ length holders → AllShort (length holders) g → AllOnGrid g holders → length further.across ≤ length holders → length further.down ≤ length holders → Facing further holders → FacedBy further holders → OnGrid g further }
 {}

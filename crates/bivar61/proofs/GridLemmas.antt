@@ -1,12 +1,13 @@
 -- Lists of rows, row by row and coefficient by coefficient.
-use Rattle.std.proofs.Common.{◌≡◌, ℕ, zero, suc, ◌+◌, ◌-◌, ◌*◌, ◌<◌, ◌≤◌, max, List, [], ◌∷◌, ◌++◌, length, take, drop, get_or, refl, sym, ap, ap₂, ◌∙◌, subst, arith, drop-cons, length-drop, drop_of_length-le, append-nil, All}
-use Rattle.std.proofs.lemmas.List.{length-take, take_all, take_more, drop-drop, get_or-drop, get_or-take}
+use Rattle.std.proofs.Common.{◌≡◌, ℕ, zero, suc, ◌+◌, ◌-◌, ◌*◌, ◌<◌, ◌≤◌, max, List, [], ◌∷◌, ◌++◌, length, take, drop, slice_get, Some, get_or, refl, sym, ap, ap₂, ◌∙◌, subst, arith, drop-cons, length-drop, drop_of_length-le, append-nil, All}
+use Rattle.std.proofs.lemmas.List.{length-take, take_all, take_more, drop-drop, append_assoc, get_or-drop, get_or-take}
 use Rattle.algebra61.specs.Field.{Fp, zeroₚ, ◌+ₚ◌, ◌*ₚ◌}
 use Rattle.algebra61.specs.Poly.{eval, coeff, add_list, scale_list}
 use Rattle.algebra61.specs.Grid.{row, column, grid_at}
 use Rattle.algebra61.proofs.Ring.{zero_add, add_zero, zero_mul, mul_zero, dif-same, difs, by_dif3, by_dif4, by_dif6}
 use Rattle.algebra61.proofs.PolyOps.{length-add, length-scale}
 use Rattle.algebra61.proofs.Dual.{coeff-add, coeff-scale}
+use Rattle.lists.proofs.Places.{drop_at}
 use Rattle.bivar61.specs.Grids.{IsGrid, coefficient, rows_of, grid_of, multiple_added}
 
 -- the grid with u (x) * v (y) added, from the power a of x on
@@ -92,6 +93,15 @@ column_step g a b x c v p lt e h w =
     ∙ sym (coeff-add (get_or g a []) _ b ∙ ap (λ u. coeff (get_or g a []) b +ₚ u) (coeff-scale x (column (drop (suc a) g) x) b)))
 
 -- ---- the product added
+-- one coefficient more
+pub multiple_step : (f : Fp) (b : ℕ) (list v sums whole : List Fp) (c z : Fp) → slice_get list b ≡ Some c → z ≡ c +ₚ f *ₚ coeff v b → sums ++ multiple_added f b (drop b list) v ≡ whole →
+    (sums ++ z ∷ []) ++ multiple_added f (b + 1) (drop (b + 1) list) v ≡ whole
+multiple_step f b list v sums whole c z got hz h =
+    let next : b + 1 ≡ suc b = omega arith in
+    append_assoc sums (z ∷ []) (multiple_added f (b + 1) (drop (b + 1) list) v)
+    ∙ ap₂ (λ x n. sums ++ (x ∷ multiple_added f n (drop (b + 1) list) v)) hz next
+    ∙ ap (λ l. sums ++ multiple_added f b l v) (sym (drop_at list b c got)) ∙ h
+
 pub length-multiple : (k : Fp) (b : ℕ) (p v : List Fp) → length (multiple_added k b p v) ≡ length p
 length-multiple k b [] v = refl
 length-multiple k b (c ∷ cs) v = ap suc (length-multiple k (suc b) cs v)

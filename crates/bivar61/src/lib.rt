@@ -12,9 +12,10 @@ ghost use Rattle.bivar61.specs.Sums.{grid_sum};
 mod laws;
 mod list;
 
-use field61::{Fe, FeList, OutOfMemory};
+use field61::{Fe, FeList};
 pub use laws::sums_law;
 pub use list::GridList;
+use lists::{OutOfMemory, TryCopy};
 use poly61::Poly;
 use std::alloc::Global;
 use std::marker::Model;
@@ -84,6 +85,19 @@ fn with_multiple(
     Ok(sums)
 }
 
+impl TryCopy for Grid {
+    fn copy(&self, alloc: Global) -> Result<Grid, OutOfMemory> {
+        let mut rows = Vec::new(alloc);
+        for row in &self.rows {
+            rows.push(row.copy(alloc)?)?;
+        }
+        Ok(Grid {
+            degree: self.degree,
+            rows,
+        })
+    }
+}
+
 impl Grid {
     /// The grid of degree `d` whose coefficient of x^a * y^b stands at place `a * (d + 1) + b` of `c`.
     pub fn from_elements(alloc: Global, d: u32, c: &[Fe]) -> Result<Grid, OutOfMemory>
@@ -101,20 +115,6 @@ impl Grid {
             rows.push(list_of(alloc, &c[start..start + width])?)?;
         }
         Ok(Grid { degree: d, rows })
-    }
-
-    /// An equal grid.
-    pub fn copy(&self, alloc: Global) -> Result<Grid, OutOfMemory>
-        ensures { IfOk result (λ g. g ≡ self.now) }
-    {
-        let mut rows = Vec::new(alloc);
-        for row in &self.rows {
-            rows.push(row.copy(alloc)?)?;
-        }
-        Ok(Grid {
-            degree: self.degree,
-            rows,
-        })
     }
 
     /// The degree d in each variable, which is at most 14.
@@ -147,11 +147,11 @@ impl Grid {
         value
     }
 
-    /// The row of `i`: the polynomial S(x, i) in x.
-    pub fn row(&self, alloc: Global, i: u32) -> Result<Poly, OutOfMemory>
-        ensures { IfOk result (λ p. p ≡ poly (row self.now (fe i))) }
+    /// The row of a receiver: the polynomial in x that S(x, y) is at the receiver's point as y.
+    pub fn row(&self, alloc: Global, index: u32) -> Result<Poly, OutOfMemory>
+        ensures { IfOk result (λ p. p ≡ poly (row self.now (fe index))) }
     {
-        let point = Fe::reduce(i as u64);
+        let point = Fe::reduce(index as u64);
         let mut values = FeList::new(alloc);
         for coefficients in &self.rows {
             values.push(value_at(coefficients, point))?;
@@ -159,11 +159,11 @@ impl Grid {
         Poly::from_coeffs(alloc, values.as_slice())
     }
 
-    /// The column of `i`: the polynomial S(i, y) in y.
-    pub fn column(&self, alloc: Global, i: u32) -> Result<Poly, OutOfMemory>
-        ensures { IfOk result (λ p. p ≡ poly (column self.now (fe i))) }
+    /// The column of a receiver: the polynomial in y that S(x, y) is at the receiver's point as x.
+    pub fn column(&self, alloc: Global, index: u32) -> Result<Poly, OutOfMemory>
+        ensures { IfOk result (λ p. p ≡ poly (column self.now (fe index))) }
     {
-        let point = Fe::reduce(i as u64);
+        let point = Fe::reduce(index as u64);
         let mut coefficients = FeList::new(alloc);
         for b in 0..self.rows.len() {
             coefficients.push(self.column_coeff(point, b))?;

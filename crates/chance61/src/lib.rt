@@ -7,7 +7,8 @@ ghost use Rattle.bivar61.specs.Grids.{IsGrid};
 ghost use Rattle.chance61.specs.Draws.{Source, candidate, two_after, element_drawn, elements_drawn, grid_drawn, five_grids_drawn};
 
 use bivar61::{Grid, GridList};
-use field61::{Fe, FeList, OutOfMemory};
+use field61::{Fe, FeList};
+use lists::OutOfMemory;
 use rand_chacha::ChaCha20Rng;
 use rand_core::SeedableRng;
 use rand_core::utils::NextWord;

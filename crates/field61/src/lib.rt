@@ -1,18 +1,15 @@
-//! Arithmetic modulo the prime 2^61 - 1, and the small lists that the crates above keep.
+//! Arithmetic modulo the prime 2^61 - 1, and lists of elements.
 #![tactic(auto)]
 
 ghost use Rattle.std.specs.Prelude.{◌≡◌, ℕ, ◌+◌, ◌-◌, ◌*◌, ◌<◌, ◌≤◌, ◌%◌, ◌↔◌, IsTrue, MatchOption, IfSome};
 ghost use Rattle.std.specs.Int.{to_be_bytes, from_be_bytes, w64};
 ghost use Rattle.algebra61.specs.Field.{Fp, fe, ◌+ₚ◌, ◌*ₚ◌, ◌-ₚ◌, negₚ, zeroₚ, oneₚ, powₚ};
 
-mod fault;
 pub mod laws;
 mod list;
-mod numbers;
 
-pub use fault::OutOfMemory;
-pub use list::FeList;
-pub use numbers::NumberList;
+pub use list::{FeList, NumberList};
+use lists::TryCopy;
 use std::marker::Model;
 
 /// The number of elements of the field, the Mersenne prime 2^61 - 1.
@@ -171,6 +168,7 @@ impl Fe {
 #[cfg(test)]
 mod tests {
     use super::*;
+    use lists::{OutOfMemory, TryCopy};
 
     // The number of an inverse, and `P` where there is none.
     fn inverse_of(v: u64) -> u64 {

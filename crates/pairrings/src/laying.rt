@@ -8,7 +8,7 @@ ghost use Rattle.pairrings.specs.Laying.{Grown, GrownBelow, LaidBelow, JoinedBel
 use crate::ends::End;
 use crate::heads::Head;
 use crate::tails::Tail;
-use field61::OutOfMemory;
+use lists::OutOfMemory;
 use rtrb::RingBuffer;
 use std::alloc::Global;
 use std::mem;

@@ -7,7 +7,8 @@ ghost use Rattle.algebra61.specs.Polynomial.{poly};
 ghost use Rattle.poly61.specs.Division.{IsDivision};
 
 use crate::Poly;
-use field61::{Fe, FeList, OutOfMemory};
+use field61::{Fe, FeList};
+use lists::{OutOfMemory, TryCopy};
 use std::alloc::Global;
 
 // The polynomial `c` times x^`k`.

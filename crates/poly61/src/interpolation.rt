@@ -6,7 +6,8 @@ ghost use Rattle.algebra61.specs.Poly.{eval, points, Distinct};
 ghost use Rattle.poly61.specs.Points.{pairs, IsThrough, AllDiffer, IsVanisher};
 
 use crate::Poly;
-use field61::{Fe, OutOfMemory};
+use field61::Fe;
+use lists::OutOfMemory;
 use std::alloc::Global;
 
 // `found` plus the multiple of `product` that gives the sum the value `y` at `x`.

@@ -12,9 +12,10 @@ mod interpolation;
 mod list;
 mod weights;
 
-use field61::{Fe, FeList, OutOfMemory};
+use field61::{Fe, FeList};
 pub use interpolation::{interpolate, vanisher};
 pub use list::PolyList;
+use lists::{OutOfMemory, TryCopy};
 use std::alloc::Global;
 use std::marker::Model;
 pub use weights::weights_at_zero;
@@ -84,6 +85,14 @@ fn shifted_sum(
     Ok(sums)
 }
 
+impl TryCopy for Poly {
+    fn copy(&self, alloc: Global) -> Result<Poly, OutOfMemory> {
+        Ok(Poly {
+            list: self.list.copy(alloc)?,
+        })
+    }
+}
+
 impl Poly {
     /// The polynomial with these coefficients, the constant first. Zeros at the end are dropped.
     pub fn from_coeffs(alloc: Global, coeffs: &[Fe]) -> Result<Poly, OutOfMemory>
@@ -95,15 +104,6 @@ impl Poly {
             list.push(*c)?;
         }
         Ok(Poly { list })
-    }
-
-    /// An equal polynomial.
-    pub fn copy(&self, alloc: Global) -> Result<Poly, OutOfMemory>
-        ensures { IfOk result (λ p. p ≡ self.now) }
-    {
-        Ok(Poly {
-            list: self.list.copy(alloc)?,
-        })
     }
 
     /// The number of coefficients up to the last that is not 0.

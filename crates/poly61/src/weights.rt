@@ -6,7 +6,8 @@ ghost use Rattle.algebra61.specs.Poly.{eval, Distinct, WeighsAt};
 ghost use Rattle.algebra61.proofs.Dual.{others};
 ghost use Rattle.algebra61.proofs.Interpolate.{vanish};
 
-use field61::{Fe, FeList, OutOfMemory};
+use field61::{Fe, FeList};
+use lists::OutOfMemory;
 use std::alloc::Global;
 
 // The product of `y` - z over the points z other than `x`.

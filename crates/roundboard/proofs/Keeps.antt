@@ -14,7 +14,7 @@ use Rattle.roundboard.specs.declared.view.View.{View}
 use Rattle.roundboard.specs.declared.view.Event.{Event}
 use Rattle.roundboard.specs.declared.view.Deed.{Deed}
 use Rattle.roundboard.specs.declared.view.Deed.TheVariants.{Posted, Passed, Closed, Lost, Published, Looked, Aborted, SawControl}
-use Rattle.roundboard.specs.Rule.{In, arrivals_of, frozen_of, frozen_word, event, with_event, Did, Sits, Has, IsFull, RoundKept, ControlKept, Left, Showed, HasShown, Licence, Kept, opened, given_out, entered, both_of, spent}
+use Rattle.roundboard.specs.Rule.{In, arrivals_of, frozen_of, frozen_word, event, with_event, Did, Sits, Has, IsFull, RoundKept, ControlKept, Left, Showed, HasShown, Licence, IsInOrder, opened, given_out, entered, both_of, spent}
 use Rattle.roundboard.specs.Plays.{Sat, posted, passed, closed, published, looked, aborted, controlled}
 use Rattle.roundboard.proofs.Views.{at_keep, at_new, did_keep, In-left, In-right, In-back, did_back, has_keep, has_new, has_back, sits_keep, sits_back, at_snoc_place, split_keep, split_back, join_from, join_to, join_over}
 use Rattle.roundboard.proofs.BitLemmas.{one_place, set_again, IsFull-part}
@@ -41,12 +41,12 @@ never_closes : (n r : ℕ) (v : View) (d : Deed) → ((k w : ℕ) → (d ≡ Pos
 never_closes n r v d quiet open_ unpublished = record { sits = λ k w e. absurd (quiet k w e); arrived = λ c e. absurd (open_ c e); closed = λ c e. absurd (unpublished c e) }
 
 -- a deed in the round r, which changes one of its words, at a view that may do the deed
-deed : (n rounds : ℕ) (s : St) (o : Kept n rounds s) (i : ℕ) (v : View) → get_elem? s.views i ≡ some v → (r : ℕ) → r < rounds → (d : Deed) (at x : ℕ)
+deed : (n rounds : ℕ) (s : St) (o : IsInOrder n rounds s) (i : ℕ) (v : View) → get_elem? s.views i ≡ some v → (r : ℕ) → r < rounds → (d : Deed) (at x : ℕ)
     → ((q : ℕ) → q ≢ r → (arrivals_of q ≢ at) × (frozen_of q ≢ at)) → 0 ≢ at
     → Licence n r v d → ((c e : ℕ) → d ≡ Closed c → Has s.views r (Closed e) → ⊥)
     → (((y : Deed) → Has s.views r y → Has (set s.views i (with_event r d v)) r y) → ((y : Deed) → Has (set s.views i (with_event r d v)) r y → Has s.views r y ⊎ (d ≡ y))
     → RoundKept n (get_or (set s.words at x) (arrivals_of r) 0) (get_or (set s.words at x) (frozen_of r) 0) (Has (set s.views i (with_event r d v)) r))
-    → Kept n rounds record { words = set s.words at x; homes = s.homes; views = set s.views i (with_event r d v) }
+    → IsInOrder n rounds record { words = set s.words at x; homes = s.homes; views = set s.views i (with_event r d v) }
 deed n rounds s o i v here r inside d at x apart off licence first round =
     let sits = licence.sits in
     let vs : List View = s.views in let vs' : List View = set vs i (with_event r d v) in
@@ -86,13 +86,13 @@ deed n rounds s o i v here r inside d at x apart off licence first round =
     }
 
 -- the views are as they were, and so are the words
-stays : (n rounds : ℕ) (s : St) (o : Kept n rounds s) (i j : ℕ) (v : View) (x : ℕ) → get_elem? s.views j ≡ some v → x ≡ word s i → Kept n rounds record { words = set s.words i x; homes = s.homes; views = set s.views j v }
+stays : (n rounds : ℕ) (s : St) (o : IsInOrder n rounds s) (i j : ℕ) (v : View) (x : ℕ) → get_elem? s.views j ≡ some v → x ≡ word s i → IsInOrder n rounds record { words = set s.words i x; homes = s.homes; views = set s.views j v }
 stays n rounds s o i j v x here is =
-    subst (λ (z : List ℕ × List View). Kept n rounds record { words = z.0; homes = s.homes; views = z.1 })
+    subst (λ (z : List ℕ × List View). IsInOrder n rounds record { words = z.0; homes = s.homes; views = z.1 })
     (λ k. ((sym (set-get_or s.words i 0) ∙ ap (λ (y : ℕ). set s.words i y) (sym is)) k, sym (Rattle.atomic_table.proofs.Lists.set_again s.views j v here) k)) o
 
 -- a place that finds the word closed and had not posted finds its passed bit
-late_bit : (n rounds : ℕ) (s : St) (o : Kept n rounds s) (r k : ℕ) → n ≤ 30 → r < rounds → k < n → ((w : ℕ) → Has s.views r (Posted k w) → ⊥)
+late_bit : (n rounds : ℕ) (s : St) (o : IsInOrder n rounds s) (r k : ℕ) → n ≤ 30 → r < rounds → k < n → ((w : ℕ) → Has s.views r (Posted k w) → ⊥)
     → bit_at (word s (arrivals_of r)) 63 ≡ 1 → bit_at (word s (arrivals_of r)) (30 + k) ≡ 1
 late_bit n rounds s o r k few inside place never late =
     let a : ℕ = word s (arrivals_of r) in let round = o.each_round r inside in
@@ -101,7 +101,7 @@ late_bit n rounds s o r k few inside place never late =
     let b = bit_at-lt a (30 + k) in omega arith
 
 -- and had passed
-late_passed : (n rounds : ℕ) (s : St) (o : Kept n rounds s) (id : ℕ) (m : Sat) (r k : ℕ) → n ≤ 30 → r < rounds → k < n → In (k + 1) m.0.numbers → get_elem? s.views id ≡ some m.0
+late_passed : (n rounds : ℕ) (s : St) (o : IsInOrder n rounds s) (id : ℕ) (m : Sat) (r k : ℕ) → n ≤ 30 → r < rounds → k < n → In (k + 1) m.0.numbers → get_elem? s.views id ≡ some m.0
     → bit_at (word s (arrivals_of r)) (30 + k) ≡ 1 → (w : ℕ) × In (event r (Passed k w)) m.0.events
 late_passed n rounds s o id m r k few inside place sits here set_ =
     let p = (o.each_round r inside).passed k (omega arith) set_ in
@@ -109,7 +109,7 @@ late_passed n rounds s o id m r k few inside place sits here set_ =
     (p.0, subst (λ (u : View). In (event r (Passed k p.0)) u.events) (some-injective p.1.1.0 m.0 (sym p.1.1.1 ∙ (ap (λ (j : ℕ). get_elem? s.views j) e ∙ here))) p.1.1.2)
 
 pub posts : (n rounds slots id : ℕ) (m : Sat) (r k : ℕ) → n ≤ 30 → r < rounds → k < n → In (k + 1) m.0.numbers → ((w : ℕ) → ¬ (In (event r (Posted k w)) m.0.events))
-    → Allows (Kept n rounds) slots id m (arrivals_of r) (λ a. bit_or a (2 ^ k)) (posted (step slots (arrivals_of r) (2 ^ k) 0 none) m)
+    → Allows (IsInOrder n rounds) slots id m (arrivals_of r) (λ a. bit_or a (2 ^ k)) (posted (step slots (arrivals_of r) (2 ^ k) 0 none) m)
 posts n rounds slots id m r k few inside place sits none_yet s o wide here _ =
     let a : ℕ = word s (arrivals_of r) in let long = o.long in
     let never : (w : ℕ) → Has s.views r (Posted k w) → ⊥ = λ w h. let e : h.0 ≡ id = o.single h.0 id (k + 1) (o.own h.0 r k w (inl h.1)) (m.0, here, sits) in
@@ -135,7 +135,7 @@ posts n rounds slots id m r k few inside place sits none_yet s o wide here _ =
     )
 
 pub passes : (n rounds slots id : ℕ) (m : Sat) (r k : ℕ) → n ≤ 30 → r < rounds → k < n → In (k + 1) m.0.numbers
-    → Allows (Kept n rounds) slots id m (arrivals_of r) (λ a. bit_or a (2 ^ (30 + k))) (passed (step slots (arrivals_of r) (2 ^ (30 + k)) 0 none) m)
+    → Allows (IsInOrder n rounds) slots id m (arrivals_of r) (λ a. bit_or a (2 ^ (30 + k))) (passed (step slots (arrivals_of r) (2 ^ (30 + k)) 0 none) m)
 passes n rounds slots id m r k few inside place sits s o wide here _ =
     let a : ℕ = word s (arrivals_of r) in let long = o.long in let x : ℕ = bit_or a (2 ^ (30 + k)) in (
       with_event r (Passed k a) m.0,
@@ -159,7 +159,7 @@ has_own : (s : St) (id : ℕ) (v : View) (r : ℕ) (d : Deed) → get_elem? s.vi
 has_own s id v r d here h = (id, (v, here, h))
 
 pub closes : (n rounds slots id : ℕ) (m : Sat) (r : ℕ) (d : Deed) (left : ℕ) → n ≤ 30 → r < rounds → In (event r d) m.0.events → Left d left → IsFull n left
-    → Allows (Kept n rounds) slots id m (arrivals_of r) (λ a. bit_or a (2 ^ 63)) (closed (step slots (arrivals_of r) (2 ^ 63) 0 none) m)
+    → Allows (IsInOrder n rounds) slots id m (arrivals_of r) (λ a. bit_or a (2 ^ 63)) (closed (step slots (arrivals_of r) (2 ^ 63) 0 none) m)
 closes n rounds slots id m r d left few inside mine is_left full s o wide here _ =
     let a : ℕ = word s (arrivals_of r) in let long = o.long in let round = o.each_round r inside in
     let full_now : IsFull n a = IsFull-part n left a full (left_part n a (word s (frozen_of r)) (Has s.views r) round d left (has_own s id m.0 r d here mine) is_left) in
@@ -190,7 +190,7 @@ closes n rounds slots id m r d left few inside mine is_left full s o wide here _
     ))
 
 pub publishes : (n rounds slots id : ℕ) (m : Sat) (r c x : ℕ) → r < rounds → In (event r (Closed c)) m.0.events → x ≡ frozen_word c
-    → Allows (Kept n rounds) slots id m (frozen_of r) (λ f. bit_or f x) (published (step slots (frozen_of r) x 0 none) m)
+    → Allows (IsInOrder n rounds) slots id m (frozen_of r) (λ f. bit_or f x) (published (step slots (frozen_of r) x 0 none) m)
 publishes n rounds slots id m r c x inside mine is s o wide here _ =
     let f : ℕ = word s (frozen_of r) in let long = o.long in let round = o.each_round r inside in let by = has_own s id m.0 r (Closed c) here mine in (
       with_event r (Published c) m.0,
@@ -205,7 +205,7 @@ publishes n rounds slots id m r c x inside mine is s o wide here _ =
       λ q d e own. let y : r ≡ q = omega arith in let z : c ≡ d = round.once c d by (has_own s id m.0 r (Closed d) here (subst (λ (t : ℕ). In (event t (Closed d)) m.0.events) (sym y) own)) in λ t. (with_event (y t) (Published (z t)) m.0, m.1),
     )
 
-pub looks : (n rounds slots id : ℕ) (m : Sat) (r : ℕ) → r < rounds → Allows (Kept n rounds) slots id m (frozen_of r) (λ f. f) (looked (step slots (frozen_of r) 0 0 none) m)
+pub looks : (n rounds slots id : ℕ) (m : Sat) (r : ℕ) → r < rounds → Allows (IsInOrder n rounds) slots id m (frozen_of r) (λ f. f) (looked (step slots (frozen_of r) 0 0 none) m)
 looks n rounds slots id m r inside s o wide here _ =
     let f : ℕ = word s (frozen_of r) in let long = o.long in let round = o.each_round r inside in (
       with_event r (Looked f) m.0,
@@ -232,9 +232,9 @@ record IsNoRounds (d : Deed) : Type 0 where
   published : (c : ℕ) → ¬ (d ≡ Published c)
 
 -- a deed on the control word
-control_deed : (n rounds : ℕ) (s : St) (o : Kept n rounds s) (i : ℕ) (v : View) → get_elem? s.views i ≡ some v → (d : Deed) (x : ℕ) → IsNoRounds d
+control_deed : (n rounds : ℕ) (s : St) (o : IsInOrder n rounds s) (i : ℕ) (v : View) → get_elem? s.views i ≡ some v → (d : Deed) (x : ℕ) → IsNoRounds d
     → (((y : Deed) → Has s.views 8 y → Has (set s.views i (with_event 8 d v)) 8 y) → ((y : Deed) → Has (set s.views i (with_event 8 d v)) 8 y → Has s.views 8 y ⊎ (d ≡ y)) → ControlKept x (Has (set s.views i (with_event 8 d v)) 8))
-    → Kept n rounds record { words = set s.words 0 x; homes = s.homes; views = set s.views i (with_event 8 d v) }
+    → IsInOrder n rounds record { words = set s.words 0 x; homes = s.homes; views = set s.views i (with_event 8 d v) }
 control_deed n rounds s o i v here d x quiet control =
     let vs : List View = s.views in let vs' : List View = set vs i (with_event 8 d v) in let r : ℕ = 8 in let few = o.few in let long = o.long in
     let keep : (q : ℕ) (y : Deed) → Has vs q y → Has vs' q y = has_keep vs i v here r d in
@@ -258,7 +258,7 @@ control_deed n rounds s o i v here d x quiet control =
           (λ (t : (j ≢ i) × (get_elem? vs j ≡ some u)). o.numbered j k u t.1 zero_ l (sits_back vs i v here r d l k b)) (at_set vs i j (with_event r d v) u is);
     }
 
-pub aborts : (n rounds slots id : ℕ) (m : Sat) → Allows (Kept n rounds) slots id m 0 (λ a. bit_or a (2 ^ 0)) (aborted (step slots 0 (2 ^ 0) 0 none) m)
+pub aborts : (n rounds slots id : ℕ) (m : Sat) → Allows (IsInOrder n rounds) slots id m 0 (λ a. bit_or a (2 ^ 0)) (aborted (step slots 0 (2 ^ 0) 0 none) m)
 aborts n rounds slots id m s o wide here _ = (
   with_event 8 Aborted m.0,
   keeps,
@@ -268,7 +268,7 @@ aborts n rounds slots id m s o wide here _ = (
   refl,
 )
 
-pub controls : (n rounds slots id : ℕ) (m : Sat) → Allows (Kept n rounds) slots id m 0 (λ a. a) (controlled (step slots 0 0 0 none) m)
+pub controls : (n rounds slots id : ℕ) (m : Sat) → Allows (IsInOrder n rounds) slots id m 0 (λ a. a) (controlled (step slots 0 0 0 none) m)
 controls n rounds slots id m s o wide here _ = (
   with_event 8 (SawControl (word s 0)) m.0,
   keeps,
@@ -307,7 +307,7 @@ empty_round n H never = record {
   looks = λ m h. absurd (never (Looked m) h);
 }
 
-pub opens : (n rounds : ℕ) (ws : List ℕ) (hs : List (Option (Unit {0}))) → rounds ≤ 8 → length ws ≡ 2 * rounds + 1 → ((i : ℕ) → get_or ws i 0 ≡ 0) → Kept n rounds record { words = ws; homes = hs; views = opened ∷ [] }
+pub opens : (n rounds : ℕ) (ws : List ℕ) (hs : List (Option (Unit {0}))) → rounds ≤ 8 → length ws ≡ 2 * rounds + 1 → ((i : ℕ) → get_or ws i 0 ≡ 0) → IsInOrder n rounds record { words = ws; homes = hs; views = opened ∷ [] }
 opens n rounds ws hs few long zeros = record {
   long = long;
   each_round = λ r inside. subst (λ (z : ℕ × ℕ). RoundKept n z.0 z.1 (Has (opened ∷ []) r)) (λ z. (sym (zeros (arrivals_of r)) z, sym (zeros (frozen_of r)) z)) (empty_round n (Has (opened ∷ []) r) (λ d h. no_deed h.0 r d h.1));
@@ -321,7 +321,7 @@ opens n rounds ws hs few long zeros = record {
   numbered = λ i k v is zero_ j b. subst (λ (u : View). k < u.given) (sym (one_view i v is)) (let e = (one_sits j k b).1 in omega arith);
 }
 
-pub enters : (n rounds id : ℕ) (v : View) → In 0 v.numbers → Splits (Kept n rounds) id v (given_out v) (entered v)
+pub enters : (n rounds id : ℕ) (v : View) → In 0 v.numbers → Splits (IsInOrder n rounds) id v (given_out v) (entered v)
 enters n rounds id v hub s o here =
     let vs : List View = s.views in let w : View = given_out v in let x : View = entered v in let vs' : List View = set vs id w ++ x ∷ [] in
     let did_to : (j q : ℕ) (d : Deed) → Did vs j q d → Did vs' j q d = λ j q d h. split_keep vs id v w x here (λ (u : View). In (event q d) u.events) (λ t. t) j h in
@@ -351,7 +351,7 @@ enters n rounds id v hub s o here =
           (at_snoc_place (set vs id w) x u i is);
     }
 
-pub gathers : (n rounds id : ℕ) (v : View) (other : ℕ) (w : View) → Joins (Kept n rounds) id v other w (both_of v w) spent
+pub gathers : (n rounds id : ℕ) (v : View) (other : ℕ) (w : View) → Joins (IsInOrder n rounds) id v other w (both_of v w) spent
 gathers n rounds id v other w s o here apart there =
     let vs : List View = s.views in let both : View = both_of v w in let vs' : List View = set (set vs id both) other spent in
     let did : ℕ → Deed → View → Type 0 = λ q d u. In (event q d) u.events in

@@ -113,7 +113,7 @@ pub record Licence (n r : ℕ) (v : View) (d : Deed) : Type 0 where
   pub closed : (c : ℕ) → d ≡ Published c → In (event r (Closed c)) v.events
 
 -- The rule of a board of n seats and so many rounds
-pub record Kept (n rounds : ℕ) (s : State (Unit {0}) View) : Type 0 where
+pub record IsInOrder (n rounds : ℕ) (s : State (Unit {0}) View) : Type 0 where
   pub long : length s.words ≡ 2 * rounds + 1
   pub each_round : (r : ℕ) → r < rounds → RoundKept n (slice_index s.words (arrivals_of r)) (slice_index s.words (frozen_of r)) (Has s.views r)
   pub few : rounds ≤ control_round

@@ -8,7 +8,6 @@ use crate::cells::Cells;
 use crate::log::Log;
 use crate::words::Words;
 use once_cell::race::OnceBox;
-use std::alloc::AllocError;
 
 /// A board of 1 to 8 rounds for S seats, 2 to 30 of them, whose posts are of type T.
 ///
@@ -30,16 +29,6 @@ pub struct Pen<T: Drop, const S: usize> {
     pub(crate) ghost refusals: { length cells.refusals.items ≡ length log.pages.items },
     pub(crate) ghost misses: { length cells.misses.items ≡ length log.pages.items * S },
     pub(crate) ghost kept: { (r k w : ℕ) → In (event r (Posting k w)) log.seat.me.0.events → ¬ (knows cells (r * S + log.place) ≡ None) },
-}
-
-/// There was no memory.
-#[derive(Clone, Copy, PartialEq, Eq, Debug)]
-pub struct OutOfMemory;
-
-impl From<AllocError> for OutOfMemory {
-    fn from(_: AllocError) -> OutOfMemory {
-        OutOfMemory
-    }
 }
 
 /// Whether a post came before its round was closed, with the arrivals word that its step found.

@@ -19,7 +19,7 @@ mod view;
 mod waits;
 mod words;
 
-pub use board::{Board, Look, OutOfMemory, Passed, Pen, PostFault, Posted, Read, Waited};
+pub use board::{Board, Look, Passed, Pen, PostFault, Posted, Read, Waited};
 pub use finish::{ClosedBoard, FinishFault, Reader};
 
 #[cfg(test)]

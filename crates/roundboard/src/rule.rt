@@ -1,5 +1,5 @@
 //! The rule of the board's words, and the names of its steps.
-ghost use Rattle.roundboard.specs.Rule.{Kept, opened, given_out, entered, both_of, spent};
+ghost use Rattle.roundboard.specs.Rule.{IsInOrder, opened, given_out, entered, both_of, spent};
 ghost use Rattle.roundboard.specs.Plays.{posted, passed, closed, published, looked, aborted, controlled};
 
 use crate::view::View;
@@ -16,7 +16,7 @@ pub struct Shape {
 pub struct Order;
 
 impl TableRule<(), View, Shape> for Order {
-    ghost holds = { λ shape. Kept shape.seats shape.rounds };
+    ghost holds = { λ shape. IsInOrder shape.seats shape.rounds };
 
     ghost first = { λ _. opened };
 }

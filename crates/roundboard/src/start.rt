@@ -4,12 +4,13 @@ ghost use Rattle.roundboard.specs.Cells.{cell_names};
 ghost use Rattle.roundboard.specs.Pens.{IsFresh, Seated, rounds_of, note_names, AllUnknown};
 ghost use Rattle.roundboard.specs.Rule.{view, opened};
 
-use crate::board::{Board, OutOfMemory, Pen};
+use crate::board::{Board, Pen};
 use crate::cells::Cells;
 use crate::log::Log;
 use crate::page::Page;
 use crate::rule::Shape;
 use crate::words::{Seat, Words};
+use lists::OutOfMemory;
 use once_cell::race::{Note, OnceBox};
 use std::alloc::{AllocError, Global};
 

@@ -1,7 +1,13 @@
-use Rattle.std.proofs.Common.{◌≡◌, ap₂, ◌∙◌, arith}
+use Rattle.std.proofs.Common.{◌≡◌, ap, ap₂, sym, ◌∙◌, arith}
 use Rattle.algebra61.specs.Poly.{mul_list}
+use Rattle.lists.proofs.Places.{drop_before}
 use Rattle.poly61.proofs.Lists.{list_is}
 use Rattle.poly61.proofs.Poly.times.Goals as goal
+
+pub loop-k-preserved : goal.loop-k-preserved
+loop-k-preserved c =
+    let left = sym (drop_before c.self.inside.list c.loop-k.k c.at.result.now c.loop-k-test.true c.at.ensures) in
+    (omega (arith, c.loop-k.invariant.0), rw c.loop-k.invariant.1 at c.in_ok-product.ensures ∙ ap (λ p. mul_list p c.other.inside.list) left)
 
 pub returns : goal.returns
 returns c =

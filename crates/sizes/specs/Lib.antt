@@ -1,0 +1,2 @@
+pub mod Committees
+pub mod Instances
