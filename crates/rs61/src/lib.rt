@@ -2,14 +2,19 @@
 //! The value at place k of a list (from 0) belongs to the point k + 1.
 #![tactic(auto)]
 
-ghost use Rattle.rs61.specs.Answers.{Answers};
+ghost use Rattle.rs61.specs.Answers.{Decodes};
 
+mod checks;
 mod elimination;
+mod errors;
 mod matrix;
 mod nearest;
 mod rows;
 
-use field61::{NumberList, OutOfMemory};
+pub use checks::syndrome;
+pub use errors::error_of;
+use field61::NumberList;
+use lists::OutOfMemory;
 pub use matrix::{Matrix, kernel_vector};
 pub use nearest::decode;
 use poly61::Poly;
@@ -40,8 +45,28 @@ impl From<OutOfMemory> for DecodeFault {
 
     ghost from_gives = { λ _ e. e ≡ OutOfMemory };
 
-    fn from(_e: field61::OutOfMemory) -> DecodeFault {
+    fn from(_e: lists::OutOfMemory) -> DecodeFault {
         DecodeFault::OutOfMemory
+    }
+}
+
+/// Why a syndrome has no error vector.
+#[derive(Clone, Copy, Debug, Drop, PartialEq, Eq)]
+pub enum ErrorFault {
+    /// No vector with so few entries other than 0 has this syndrome.
+    NoError,
+    /// Want of memory.
+    OutOfMemory,
+}
+
+impl From<OutOfMemory> for ErrorFault {
+    ghost use Rattle.std.specs.Prelude.{◌≡◌};
+    ghost use Rattle.rs61.specs.declared.ErrorFault.TheVariants.{OutOfMemory};
+
+    ghost from_gives = { λ _ e. e ≡ OutOfMemory };
+
+    fn from(_e: lists::OutOfMemory) -> ErrorFault {
+        ErrorFault::OutOfMemory
     }
 }
 
