@@ -9,7 +9,8 @@ use Rattle.drillbook.specs.declared.order.Verb.{Verb}
 use Rattle.drillbook.specs.declared.fault.DrillFault.{DrillFault}
 use Rattle.drillbook.specs.declared.fault.DrillFault.TheVariants.{BadLine}
 use Rattle.drillbook.specs.Orders.{AllLawful, IsLawful, is_lawful, order_at}
-use Rattle.drillbook.specs.Text.{split, some_if, order_of, order_in, stranger_in, judged, is_idle, line_at, after_ok, lines_at, number_in, plain_verb, argued_verb}
+use Rattle.decimals.specs.Decimals.{number_in}
+use Rattle.drillbook.specs.Text.{split, some_if, order_of, order_in, stranger_in, judged, is_idle, line_at, after_ok, lines_at, plain_verb, argued_verb}
 
 -- the test of all orders
 pub all_lawful : (s : Shape) (os : List Order) → Decides (list_all (is_lawful s) os) (AllLawful s os)

@@ -1,5 +1,4 @@
 pub mod Parts
-pub mod Numbers
 pub mod Lists
 pub mod Lawful
 pub mod Told

@@ -18,9 +18,10 @@ use Rattle.drillbook.specs.declared.order.Verb.TheVariants.{Silent, Late, Garble
 use Rattle.drillbook.specs.declared.fault.DrillFault.TheVariants.{BadLine}
 use Rattle.talk.specs.Basics.{first_of}
 use Rattle.drillbook.specs.Orders.{IsLawful, NamesReceiver, allows, is_lawful, order_at}
-use Rattle.drillbook.specs.Text.{split, number_of, number_in, some_if, plain_verb, argued_verb, element_of, skew_by, wrong_by, accuse_of, is_verb, stranger_of, stranger_in, order_of, order_in, judged, with_order, is_idle}
+use Rattle.drillbook.specs.Text.{split, some_if, plain_verb, argued_verb, element_of, skew_by, wrong_by, accuse_of, is_verb, stranger_of, stranger_in, order_of, order_in, judged, with_order, is_idle}
 use Rattle.drillbook.specs.Law.{ReadIsSpelled, SpelledIsRead, verb_text, order_text}
-use Rattle.drillbook.proofs.Numbers.{own, spelled}
+use Rattle.decimals.specs.Decimals.{number_in}
+use Rattle.decimals.proofs.Numbers.{own, found_below, read_below}
 use Rattle.drillbook.proofs.Told.{allowed_names}
 use Rattle.drillbook.proofs.Lawful.{same_some, some_if_true, order_in_lawful, judged_adds}
 
@@ -45,15 +46,10 @@ idle_from [] rest some first = absurd (omega (arith, some))
 idle_from (c ∷ cs) rest some first = ne_eqb c 35 (λ e. omega (arith, first, e))
 
 number_read : (n : ℕ) → n < 2 ^ 64 → number_in (decimal n) ≡ Some n
-number_read n lt =
-    let e : number_of (decimal n) ≡ n = digits_value-decimal own n lt in
-    spelled (decimal n) (ap decimal (sym e)) (omega (arith, e, lt)) ∙ ap (λ (k : ℕ). Some k) e
+number_read n lt = read_below (2 ^ 64) n lt lt
 
 number_is : (word : List ℕ) (n : ℕ) → number_in word ≡ Some n → word ≡ decimal n
-number_is word n e =
-    let h = some_if_true (bytes_eq word (decimal (number_of word)) && ltb (number_of word) (2 ^ 64)) (number_of word) n e in
-    let p = and_parts (bytes_eq word (decimal (number_of word))) (ltb (number_of word) (2 ^ 64)) h.0 in
-    (bytes_eq-Decides word (decimal (number_of word))).0 p.0 ∙ ap decimal h.1
+number_is word n e = (found_below (2 ^ 64) word n e).0
 
 -- From the order to its line.
 -- the words of the rest of a line

@@ -7,6 +7,7 @@ use Rattle.algebra61.specs.Field.{Fp, fe, Prime}
 use Rattle.sharing61.specs.Count.{how_many}
 use Rattle.talk.specs.Basics.{first_of}
 use Rattle.talk.specs.Shape.{Shape, seats, within}
+use Rattle.decimals.specs.Decimals.{number_in}
 use Rattle.drillbook.specs.declared.order.Verb.{Verb}
 use Rattle.drillbook.specs.declared.order.Verb.TheVariants.{Silent, Late, Garble, Skew, Wrong, Accuse, Veto}
 use Rattle.drillbook.specs.declared.order.Order.{Order}
@@ -18,22 +19,10 @@ use Rattle.drillbook.specs.Orders.{moves, is_lawful, names, order_at}
 abbrev pub split : ℕ → List ℕ → List (List ℕ)
 split sep text = slice_split (λ c. eqb c sep) text
 
--- the number that digits tell, after the number so far
-abbrev pub number_on : ℕ → List ℕ → ℕ
-number_on n [] = n
-number_on n (c ∷ cs) = number_on (10 * n + (c - 48)) cs
-
-abbrev pub number_of : List ℕ → ℕ
-number_of digits = number_on 0 digits
-
 -- the value where the test holds
 abbrev pub some_if : {A : Type 0} → Bool → A → Option A
 some_if true a = Some a
 some_if false a = None
-
--- the number of which a word is the decimal, where it is below 2^64
-abbrev pub number_in : List ℕ → Option ℕ
-number_in word = some_if (bytes_eq word (decimal (number_of word)) && ltb (number_of word) (2 ^ 64)) (number_of word)
 
 -- a verb without an argument
 abbrev pub plain_verb : List ℕ → Option Verb

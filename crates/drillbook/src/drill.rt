@@ -8,7 +8,8 @@ ghost use Rattle.drillbook.specs.Orders.{added_by, names, order_at, wrong_of, is
 ghost use Rattle.drillbook.specs.Text.{named_among};
 
 use crate::{Order, Verb};
-use field61::{Fe, OutOfMemory};
+use field61::Fe;
+use lists::OutOfMemory;
 use std::alloc::Global;
 use std::marker::Model;
 use talk::{Setting, mask_with};
@@ -51,10 +52,10 @@ impl Drill {
     /// the phase, its verb stands there by its table, and a receiver that it names sits on another seat. A drill
     /// that was read for the setting is lawful for it.
     #[tactic(auto, using(crate::proofs::Lawful::all_lawful_at))]
-    pub fn is_lawful(&self, s: &Setting) -> bool
-        ensures { Decides result (AllLawful s.now self.now) }
+    pub fn is_lawful(&self, setting: &Setting) -> bool
+        ensures { Decides result (AllLawful setting.now self.now) }
     {
-        each_is_lawful(self.orders.as_slice(), s)
+        each_is_lawful(self.orders.as_slice(), setting)
     }
 
     /// How many orders there are.
@@ -64,12 +65,12 @@ impl Drill {
         self.orders.len()
     }
 
-    /// The order at place `k`, counted from 0.
-    pub fn at(&self, k: usize) -> &Order
-        requires { k < length self.now }
-        ensures { slice_get self.now k ≡ Some result.now }
+    /// The order at a place, counted from 0.
+    pub fn at(&self, place: usize) -> &Order
+        requires { place < length self.now }
+        ensures { slice_get self.now place ≡ Some result.now }
     {
-        &self.orders[k]
+        &self.orders[place]
     }
 
     /// The orders.

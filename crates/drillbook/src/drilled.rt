@@ -1,7 +1,7 @@
 //! Drilled minds.
 
 ghost use Rattle.std.specs.Prelude.{◌≡◌, ℕ, ◌+◌, ◌<◌, IfOk, OnOk, OnErr};
-ghost use Rattle.talk.specs.Hears.{Kept, WordFits};
+ghost use Rattle.talk.specs.Hears.{StaysMade, WordFits};
 ghost use Rattle.talk.specs.Sync.{Ways, ways};
 ghost use Rattle.talk.specs.declared.messages.Say.TheVariants.{Pass};
 ghost use Rattle.drillbook.specs.Orders.{AllLawful, order_at};
@@ -9,7 +9,7 @@ ghost use Rattle.drillbook.specs.Word.{drilled_word, drilled_ways, is_accusing, 
 
 use crate::telling::drilled;
 use crate::{Drill, Verb};
-use field61::OutOfMemory;
+use lists::{OutOfMemory, TryCopy};
 use std::alloc::Global;
 use std::marker::Model;
 use talk::{Heard, Mind, Say, Setting};
@@ -46,15 +46,15 @@ impl<M: Mind> Drilled<M> {
         mind: M,
         drill: &Drill,
         seat: u32,
-        s: Setting,
+        setting: Setting,
     ) -> Result<Drilled<M>, OutOfMemory>
         requires fresh { M.may_say mind 1 }
-        requires made { M.made_for mind s seat }
-        requires lawful { AllLawful s drill.now }
-        ensures { IfOk result (λ d. d ≡ record { shape = s; seat = seat; orders = drill.now; second = Pass; inner = mind }) }
+        requires made { M.made_for mind setting seat }
+        requires lawful { AllLawful setting drill.now }
+        ensures { IfOk result (λ d. d ≡ record { shape = setting; seat = seat; orders = drill.now; second = Pass; inner = mind }) }
     {
         Ok(Drilled {
-            setting: s,
+            setting,
             seat,
             drill: drill.copy(alloc)?,
             second: Say::Pass,

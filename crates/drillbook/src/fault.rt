@@ -3,7 +3,7 @@ ghost use Rattle.std.specs.Prelude.{◌≡◌};
 ghost use Rattle.drillbook.specs.declared.fault.DrillFault.TheVariants.{OutOfMemory};
 ghost use Rattle.drillbook.specs.Text.{fault_number};
 
-use field61::OutOfMemory;
+use lists::OutOfMemory;
 
 /// Why a text is no drill for a setting. The first line that is refused decides; `TooMany` comes where no
 /// line is. Lines count from 1.

@@ -4,11 +4,13 @@ ghost use Rattle.std.specs.Prelude.{◌≡◌, ℕ, ◌+◌, ◌<◌, ◌≤◌,
 ghost use Rattle.std.proofs.Common.{leb};
 ghost use Rattle.sharing61.specs.Count.{how_many};
 ghost use Rattle.drillbook.specs.Orders.{AllLawful, is_lawful, names};
-ghost use Rattle.drillbook.specs.Text.{Fails, Reads, counted, drill_at, line_at, lines_at, number_in, old_bound, order_in, order_of, split, stranger_in, stranger_of, with_order};
+ghost use Rattle.decimals.specs.Decimals.{number_in};
+ghost use Rattle.drillbook.specs.Text.{Fails, Reads, counted, drill_at, line_at, lines_at, old_bound, order_in, order_of, split, stranger_in, stranger_of, with_order};
 
 use crate::drill::{is_lawful, named_among};
-use crate::words::{argued_verb, cut_at, is_verb, number_in, plain_verb};
+use crate::words::{argued_verb, cut_at, is_verb, plain_verb};
 use crate::{Drill, DrillFault, Order, Verb};
+use decimals::read_u64;
 use std::alloc::Global;
 use talk::Setting;
 
@@ -19,14 +21,14 @@ use talk::Setting;
 ///
 /// The first refused line decides whether the fault is `BadLine` or `Stranger`; `TooMany` comes where no line
 /// is refused.
-pub fn read_drill(alloc: Global, text: &[u8], s: &Setting) -> Result<Drill, DrillFault>
-    ensures is { Reads result (drill_at s.now text.now) }
-    ensures lawful { IfOk result (λ d. AllLawful s.now d) }
-    ensures few { IfOk result (λ d. how_many s.now.receivers (λ j. names d (s.now.shift + j)) ≤ s.now.bound) }
-    ensures old { IfOk result (λ d. s.now.shift ≢ 0 → how_many s.now.dealers (names d) ≤ old_bound s.now) }
+pub fn read_drill(alloc: Global, text: &[u8], setting: &Setting) -> Result<Drill, DrillFault>
+    ensures is { Reads result (drill_at setting.now text.now) }
+    ensures lawful { IfOk result (λ d. AllLawful setting.now d) }
+    ensures few { IfOk result (λ d. how_many setting.now.receivers (λ j. names d (setting.now.shift + j)) ≤ setting.now.bound) }
+    ensures old { IfOk result (λ d. setting.now.shift ≢ 0 → how_many setting.now.dealers (names d) ≤ old_bound setting.now) }
 {
-    let drill = read_lines(alloc, text, s)?;
-    expect_few_named(&drill, s)?;
+    let drill = read_lines(alloc, text, setting)?;
+    expect_few_named(&drill, setting)?;
     Ok(drill)
 }
 
@@ -119,8 +121,8 @@ fn read_words(text: &[u8], s: &Setting) -> Said
     let Some(second) = cut_at(rest, b' ') else {
         return nothing;
     };
-    let party = number_in(&text[..first]);
-    let round = number_in(&rest[..second]);
+    let party = read_u64(&text[..first]);
+    let round = read_u64(&rest[..second]);
     read_verb(party, round, &rest[second + 1..], s)
 }
 

@@ -10,7 +10,8 @@ ghost use Rattle.drillbook.specs.Word.{accused, accused_row, added_each, complai
 
 use crate::side::Side;
 use crate::{Drill, Verb};
-use field61::{Fe, FeList, OutOfMemory};
+use field61::{Fe, FeList};
+use lists::{OutOfMemory, TryCopy};
 use std::alloc::Global;
 use talk::{
     Complaint, ComplaintList, Post, Reveal, RevealList, Ring, RingList, Say, Setting, VoteList,

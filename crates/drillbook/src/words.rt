@@ -1,11 +1,11 @@
 //! The words of a drill's text.
 
-ghost use Rattle.std.specs.Prelude.{◌≡◌, ◌==◌, ℕ, ◌+◌, ◌-◌, ◌*◌, ◌^◌, ◌<◌, ◌≤◌, ◌⊎◌, ◌∷◌, [], ◌||◌, true, false, take, drop, length, MatchOption};
+ghost use Rattle.std.specs.Prelude.{◌≡◌, ◌==◌, ◌+◌, ◌<◌, ◌∷◌, [], take, drop, length, MatchOption};
 ghost use Rattle.std.specs.List.{position};
-ghost use Rattle.std.specs.Str.{all_ascii_digits};
-ghost use Rattle.drillbook.specs.Text.{split, number_in, number_of, plain_verb, argued_verb, is_verb};
+ghost use Rattle.drillbook.specs.Text.{split, plain_verb, argued_verb, is_verb};
 
 use crate::Verb;
+use decimals::read_u64;
 use field61::Fe;
 
 // Where the first separator stands.
@@ -21,44 +21,6 @@ fn separator_at(text: &[u8], separator: u8) -> Option<usize>
     ensures { result ≡ position (λ c. c == separator) text.now }
 {
     text.iter().position(|c| *c == separator)
-}
-
-// The number that a word is in decimal, without leading zeros. `None` also where it is above 2^64 - 1.
-#[tactic(auto, using(crate::proofs::Numbers::is_number, crate::proofs::Numbers::is_no_number, crate::proofs::Numbers::is_empty_word, crate::proofs::Numbers::starts_with_zero))]
-pub(crate) fn number_in(word: &[u8]) -> Option<u64>
-    ensures { result ≡ number_in word.now }
-{
-    let number = digits_in(word)?;
-    if word.is_empty() {
-        return None;
-    }
-    if word.len() > 1 && word[0] == b'0' {
-        return None;
-    }
-    Some(number)
-}
-
-// The number that digits tell.
-#[tactic(auto, using(crate::proofs::Numbers::number_grows))]
-fn digits_in(word: &[u8]) -> Option<u64>
-    ensures { MatchOption result ((all_ascii_digits word.now ≡ false) ⊎ (2 ^ 64 ≤ number_of word.now)) (λ n. (all_ascii_digits word.now ≡ true) × (number_of word.now ≡ n)) }
-{
-    let mut number: u64 = 0;
-    for c in word {
-        if !c.is_ascii_digit() {
-            return None;
-        }
-        number = with_digit(number, *c)?;
-    }
-    Some(number)
-}
-
-// The number with one more digit.
-fn with_digit(number: u64, digit: u8) -> Option<u64>
-    requires { 48 ≤ digit }
-    ensures { MatchOption result (2 ^ 64 ≤ 10 * number + (digit - 48)) (λ n. n ≡ 10 * number + (digit - 48)) }
-{
-    number.checked_mul(10)?.checked_add(u64::from(digit - b'0'))
 }
 
 // The verb that takes no argument.
@@ -82,7 +44,7 @@ pub(crate) fn plain_verb(word: &[u8]) -> Option<Verb>
 pub(crate) fn argued_verb(word: &[u8], argument: &[u8]) -> Option<Verb>
     ensures { result ≡ argued_verb word.now argument.now }
 {
-    let number = number_in(argument);
+    let number = read_u64(argument);
     if word == b"skew".as_slice() {
         Some(Verb::Skew {
             by: Fe::from_u64(number?)?,

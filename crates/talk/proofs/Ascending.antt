@@ -7,12 +7,12 @@ use Rattle.std.proofs.lemmas.List.{drop_more}
 use Rattle.talk.specs.declared.messages.Complaint.{Complaint}
 use Rattle.talk.specs.declared.messages.Reveal.{Reveal}
 use Rattle.talk.specs.Shape.{Shape, instances}
-use Rattle.talk.specs.Read.{comes_first, ascends, after, complaint_in, complaints_ok, reveal_in, reveals_ok}
+use Rattle.talk.specs.Read.{comes_first, ascends, comes_before, complaint_in, complaints_ok, reveal_in, reveals_ok}
 
 -- the items come after the keys a and b, in order of their keys, and each passes the test
 abbrev pub ascends_from : {A : Type 0} → (A → ℕ) → (A → ℕ) → (A → Bool) → ℕ → ℕ → List A → Bool
 ascends_from f g ok a b [] = true
-ascends_from f g ok a b (x ∷ xs) = after a b (f x) (g x) && (ok x && ascends_from f g ok (f x) (g x) xs)
+ascends_from f g ok a b (x ∷ xs) = comes_before a b (f x) (g x) && (ok x && ascends_from f g ok (f x) (g x) xs)
 
 -- the same for complaints and for reveals
 abbrev pub complaints_from : Shape → ℕ → ℕ → List Complaint → Bool
@@ -38,27 +38,27 @@ first_part true b e = refl
 first_part false b e = absurd (cc (e))
 
 -- a first item whose second key is at least 1 comes after (0, 0)
-first_after : (a b : ℕ) → leb 1 b ≡ true → after 0 0 a b ≡ true
+first_after : (a b : ℕ) → leb 1 b ≡ true → comes_before 0 0 a b ≡ true
 first_after zero b e = lt-ltb 0 b (leb-true 1 b e)
 first_after (suc a) b e = or_left (ltb 0 (suc a)) (eqb 0 (suc a) && ltb 0 b) (lt-ltb 0 (suc a) (omega arith))
 
 module _ {A : Type 0} (f g : A → ℕ) (ok : A → Bool) where
   rest_is : (x : A) (xs : List A) →
-      (comes_first (λ y z. after (f y) (g y) (f z) (g z)) x xs && (ascends (λ y z. after (f y) (g y) (f z) (g z)) xs && list_all ok xs))
+      (comes_first (λ y z. comes_before (f y) (g y) (f z) (g z)) x xs && (ascends (λ y z. comes_before (f y) (g y) (f z) (g z)) xs && list_all ok xs))
       ≡ ascends_from f g ok (f x) (g x) xs
   rest_is x [] = refl
   rest_is x (y ∷ ys) =
-      ap (λ z. after (f x) (g x) (f y) (g y) && z)
-      (shuffled (comes_first (λ y z. after (f y) (g y) (f z) (g z)) y ys) (ascends (λ y z. after (f y) (g y) (f z) (g z)) ys) (ok y) (list_all ok ys)
+      ap (λ z. comes_before (f x) (g x) (f y) (g y) && z)
+      (shuffled (comes_first (λ y z. comes_before (f y) (g y) (f z) (g z)) y ys) (ascends (λ y z. comes_before (f y) (g y) (f z) (g z)) ys) (ok y) (list_all ok ys)
       ∙ ap (λ z. ok y && z) (rest_is y ys))
 
   ascends_is : ((x : A) → ok x ≡ true → leb 1 (g x) ≡ true) → (xs : List A) →
-      (ascends (λ y z. after (f y) (g y) (f z) (g z)) xs && list_all ok xs) ≡ ascends_from f g ok 0 0 xs
+      (ascends (λ y z. comes_before (f y) (g y) (f z) (g z)) xs && list_all ok xs) ≡ ascends_from f g ok 0 0 xs
   ascends_is h [] = refl
   ascends_is h (x ∷ xs) =
-      shuffled (comes_first (λ y z. after (f y) (g y) (f z) (g z)) x xs) (ascends (λ y z. after (f y) (g y) (f z) (g z)) xs) (ok x) (list_all ok xs)
+      shuffled (comes_first (λ y z. comes_before (f y) (g y) (f z) (g z)) x xs) (ascends (λ y z. comes_before (f y) (g y) (f z) (g z)) xs) (ok x) (list_all ok xs)
       ∙ ap (λ z. ok x && z) (rest_is x xs)
-      ∙ implied (after 0 0 (f x) (g x)) (ok x && ascends_from f g ok (f x) (g x) xs)
+      ∙ implied (comes_before 0 0 (f x) (g x)) (ok x && ascends_from f g ok (f x) (g x) xs)
       (λ e. first_after (f x) (g x) (h x (first_part (ok x) (ascends_from f g ok (f x) (g x) xs) e)))
 
 second_part : (a b c : Bool) → (a && (b && c)) ≡ true → b ≡ true
@@ -96,14 +96,14 @@ lost true false z e = refl
 lost false q z e = refl
 
 module _ {A : Type 0} (f g : A → ℕ) (ok : A → Bool) (a b i : ℕ) (xs : List A) (x : A) (whole : Bool) where
-  pub goes_on : whole ≡ ascends_from f g ok a b (drop i xs) → i < length xs → x ≡ get_or xs i x → (after a b (f x) (g x) && ok x) ≡ true →
+  pub goes_on : whole ≡ ascends_from f g ok a b (drop i xs) → i < length xs → x ≡ get_or xs i x → (comes_before a b (f x) (g x) && ok x) ≡ true →
       whole ≡ ascends_from f g ok (f x) (g x) (drop (i + 1) xs)
   goes_on e lt is pass =
       e ∙ ap (ascends_from f g ok a b) (drop_item xs i x lt is)
-      ∙ kept (after a b (f x) (g x)) (ok x) (ascends_from f g ok (f x) (g x) (drop (i + 1) xs)) pass
+      ∙ kept (comes_before a b (f x) (g x)) (ok x) (ascends_from f g ok (f x) (g x) (drop (i + 1) xs)) pass
 
-  pub ends : whole ≡ ascends_from f g ok a b (drop i xs) → i < length xs → x ≡ get_or xs i x → (after a b (f x) (g x) && ok x) ≡ false → false ≡ whole
+  pub ends : whole ≡ ascends_from f g ok a b (drop i xs) → i < length xs → x ≡ get_or xs i x → (comes_before a b (f x) (g x) && ok x) ≡ false → false ≡ whole
   ends e lt is fail =
       sym
       (e ∙ ap (ascends_from f g ok a b) (drop_item xs i x lt is)
-      ∙ lost (after a b (f x) (g x)) (ok x) (ascends_from f g ok (f x) (g x) (drop (i + 1) xs)) fail)
+      ∙ lost (comes_before a b (f x) (g x)) (ok x) (ascends_from f g ok (f x) (g x) (drop (i + 1) xs)) fail)

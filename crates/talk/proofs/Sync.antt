@@ -6,8 +6,8 @@ use Rattle.talk.specs.declared.messages.Say.{Say}
 use Rattle.talk.specs.declared.messages.Say.TheVariants.{Speak, Pass, PassThenSpeak}
 use Rattle.talk.specs.declared.messages.Heard.{Heard}
 use Rattle.talk.specs.Shape.{Shape, rounds}
-use Rattle.talk.specs.Hears.{Hearing, Seated, Kept}
-use Rattle.talk.specs.Sync.{Ways, words_of, after_words, after_hears, after_round, sync, IsMask, has, speaks, MaySay, Allowed, AllAllowed, Spoken, AllSpoken, last_mask, heard_at}
+use Rattle.talk.specs.Hears.{Hearing, Seated, StaysMade}
+use Rattle.talk.specs.Sync.{Ways, words_of, after_words, after_hears, after_round, sync, IsMask, has, speaks, MaySay, said_when, Allowed, AllAllowed, Spoken, AllSpoken, last_mask, heard_at}
 
 module _ {M : Type 0} where
   pub sync-append : (w : Ways M) (s : Shape) (round : ℕ) (masks : List ℕ) (mask : ℕ) (ms : List M) →
@@ -39,7 +39,7 @@ module _ {M : Type 0} where
   hearing_words w may_say may_hear law round [] h = tt
   hearing_words w may_say may_hear law round (m ∷ ms) h = (law m round h.0, hearing_words w may_say may_hear law round ms h.1)
 
-  pub seated_words : (w : Ways M) (may_say : M → ℕ → Type 0) (made : M → Shape → ℕ → Type 0) → ((m : M) (r : ℕ) → may_say m r → Kept (made m) (made (w.after_say m r))) →
+  pub seated_words : (w : Ways M) (may_say : M → ℕ → Type 0) (made : M → Shape → ℕ → Type 0) → ((m : M) (r : ℕ) → may_say m r → StaysMade (made m) (made (w.after_say m r))) →
       (s : Shape) (round seat : ℕ) (ms : List M) → Hearing may_say round ms → Seated made s seat ms → Seated made s seat (after_words w round ms)
   seated_words w may_say made law s round seat [] h t = tt
   seated_words w may_say made law s round seat (m ∷ ms) h t = ((law m round h.0 s seat).0 t.0, seated_words w may_say made law s round (seat + 1) ms h.1 t.1)
@@ -52,7 +52,7 @@ module _ {M : Type 0} where
   hearing_hears w may_say may_hear made law s round mask words seat (m ∷ ms) lt h t =
       (law m round (heard_at s round mask words seat) s seat h.0 t.0 lt, hearing_hears w may_say may_hear made law s round mask words (seat + 1) ms lt h.1 t.1)
 
-  pub seated_hears : (w : Ways M) (may_hear : M → ℕ → Type 0) (made : M → Shape → ℕ → Type 0) → ((m : M) (r : ℕ) (h : Heard) → may_hear m r → Kept (made m) (made (w.after_hear m r h))) →
+  pub seated_hears : (w : Ways M) (may_hear : M → ℕ → Type 0) (made : M → Shape → ℕ → Type 0) → ((m : M) (r : ℕ) (h : Heard) → may_hear m r → StaysMade (made m) (made (w.after_hear m r h))) →
       (s : Shape) (round mask : ℕ) (words : List Say) (seat : ℕ) (ms : List M) → Hearing may_hear round ms → Seated made s seat ms → Seated made s seat (after_hears w s round mask words seat ms)
   seated_hears w may_hear made law s round mask words seat [] h t = tt
   seated_hears w may_hear made law s round mask words seat (m ∷ ms) h t =
@@ -81,7 +81,7 @@ module _ {M : Type 0} where
       (round : ℕ) (ms ms1 : List M) → ms1 ≡ after_words w round ms → Hearing may_say round ms → Hearing may_hear round ms1
   may_heard w may_say may_hear law round ms ms1 e h = subst (Hearing may_hear round) (sym e) (hearing_words w may_say may_hear law round ms h)
 
-  pub made_heard : (w : Ways M) (may_say : M → ℕ → Type 0) (made : M → Shape → ℕ → Type 0) → ((m : M) (r : ℕ) → may_say m r → Kept (made m) (made (w.after_say m r))) →
+  pub made_heard : (w : Ways M) (may_say : M → ℕ → Type 0) (made : M → Shape → ℕ → Type 0) → ((m : M) (r : ℕ) → may_say m r → StaysMade (made m) (made (w.after_say m r))) →
       (s : Shape) (round : ℕ) (ms ms1 : List M) → ms1 ≡ after_words w round ms → Hearing may_say round ms → Seated made s 1 ms → Seated made s 1 ms1
   made_heard w may_say made law s round ms ms1 e h t = subst (Seated made s 1) (sym e) (seated_words w may_say made law s round 1 ms h t)
 
@@ -90,7 +90,7 @@ module _ {M : Type 0} where
       (s : Shape) (round mask : ℕ) (wt : List Say) (ms1 ms2 : List M) → ms2 ≡ after_hears w s round mask wt 1 ms1 → round < rounds s → Hearing may_hear round ms1 → Seated made s 1 ms1 → Hearing may_say (round + 1) ms2
   may_next w may_say may_hear made law s round mask wt ms1 ms2 e lt h t = subst (Hearing may_say (round + 1)) (sym e) (hearing_hears w may_say may_hear made law s round mask wt 1 ms1 lt h t)
 
-  pub made_next : (w : Ways M) (may_hear : M → ℕ → Type 0) (made : M → Shape → ℕ → Type 0) → ((m : M) (r : ℕ) (h : Heard) → may_hear m r → Kept (made m) (made (w.after_hear m r h))) →
+  pub made_next : (w : Ways M) (may_hear : M → ℕ → Type 0) (made : M → Shape → ℕ → Type 0) → ((m : M) (r : ℕ) (h : Heard) → may_hear m r → StaysMade (made m) (made (w.after_hear m r h))) →
       (s : Shape) (round mask : ℕ) (wt : List Say) (ms1 ms2 : List M) → ms2 ≡ after_hears w s round mask wt 1 ms1 → Hearing may_hear round ms1 → Seated made s 1 ms1 → Seated made s 1 ms2
   made_next w may_hear made law s round mask wt ms1 ms2 e h t = subst (Seated made s 1) (sym e) (seated_hears w may_hear made law s round mask wt 1 ms1 h t)
 
@@ -111,25 +111,31 @@ spoken_from before mask seat (w ∷ ws) h =
           subst (λ n. has mask n ≡ (has before n && speaks (get_or ws k Pass))) next (h (suc k) (omega (arith, lt)))),
     )
 
--- a mask in which nobody is who speaks late is allowed
-may_from : (before now : Bool) (w : Say) → now ≡ (before && speaks w) → MaySay before now w
-may_from true now (Speak p rs) e = e
-may_from false now (Speak p rs) e = e
-may_from true now Pass e = e
-may_from false now Pass e = e
-may_from true now (PassThenSpeak p rs) e = λ _. refl
-may_from false now (PassThenSpeak p rs) e = λ f. absurd (cc (e, f))
+-- a mask in which nobody is who speaks late is allowed, whoever was cut
+may_from : (cut before now : Bool) (w : Say) → now ≡ (before && speaks w) → MaySay before now (said_when cut w)
+may_from true true now (Speak p rs) e = λ _. refl
+may_from true false now (Speak p rs) e = λ f. absurd (cc (e, f))
+may_from false true now (Speak p rs) e = e
+may_from false false now (Speak p rs) e = e
+may_from true true now Pass e = e
+may_from true false now Pass e = e
+may_from false true now Pass e = e
+may_from false false now Pass e = e
+may_from true true now (PassThenSpeak p rs) e = λ _. refl
+may_from true false now (PassThenSpeak p rs) e = λ f. absurd (cc (e, f))
+may_from false true now (PassThenSpeak p rs) e = λ _. refl
+may_from false false now (PassThenSpeak p rs) e = λ f. absurd (cc (e, f))
 
-allowed_from : (before mask seat : ℕ) (ws : List Say) → Spoken before mask seat ws → Allowed before mask seat ws
-allowed_from before mask seat [] h = tt
-allowed_from before mask seat (w ∷ ws) h = (may_from (has before seat) (has mask seat) w h.0, allowed_from before mask (seat + 1) ws h.1)
+allowed_from : (before mask cut seat : ℕ) (ws : List Say) → Spoken before mask seat ws → Allowed before mask cut seat ws
+allowed_from before mask cut seat [] h = tt
+allowed_from before mask cut seat (w ∷ ws) h = (may_from (has cut seat) (has before seat) (has mask seat) w h.0, allowed_from before mask cut (seat + 1) ws h.1)
 
 module _ {M : Type 0} where
   -- one word for each mind
   pub words_count : (w : Ways M) (round n : ℕ) (ms : List M) (words wt : List Say) → words ≡ words_of w round ms → wt ≡ words → length ms ≡ n → length wt ≡ n
   words_count w round n ms words wt ew et e = ap length (et ∙ ew) ∙ length-map ms (λ m. w.word m round) ∙ e
 
-  pub all_allowed : (w : Ways M) (s : Shape) (round before : ℕ) (masks : List ℕ) (ms : List M) → AllSpoken w s round before masks ms → AllAllowed w s round before masks ms
-  all_allowed w s round before [] ms h = tt
-  all_allowed w s round before (mask ∷ masks) ms h =
-      (h.0, allowed_from before mask 1 (words_of w round ms) h.1, all_allowed w s (round + 1) mask masks (after_round w s round mask ms) h.2)
+  pub all_allowed : (w : Ways M) (s : Shape) (round before : ℕ) (cut : ℕ → ℕ) (masks : List ℕ) (ms : List M) → AllSpoken w s round before masks ms → AllAllowed w s round before cut masks ms
+  all_allowed w s round before cut [] ms h = tt
+  all_allowed w s round before cut (mask ∷ masks) ms h =
+      (h.0, allowed_from before mask (cut round) 1 (words_of w round ms) h.1, all_allowed w s (round + 1) mask cut masks (after_round w s round mask ms) h.2)

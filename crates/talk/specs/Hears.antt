@@ -31,8 +31,8 @@ abbrev pub AsRead : (Shape → ℕ → Type 0) → ℕ → Heard → Type 0
 AsRead made_for round h = (s : Shape) × (seat : ℕ) × made_for s seat × Fits s seat round h
 
 -- a mind is made for the same settings and seats as before
-abbrev pub Kept : (Shape → ℕ → Type 0) → (Shape → ℕ → Type 0) → Type 0
-Kept before now = (s : Shape) (seat : ℕ) → (before s seat → now s seat) × (now s seat → before s seat)
+abbrev pub StaysMade : (Shape → ℕ → Type 0) → (Shape → ℕ → Type 0) → Type 0
+StaysMade before now = (s : Shape) (seat : ℕ) → (before s seat → now s seat) × (now s seat → before s seat)
 
 -- one ring message for each seat, and none for the own
 pub record OneEach (s : Shape) (seat : ℕ) (rings : List Ring) : Type 0 where

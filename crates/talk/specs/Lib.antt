@@ -3,5 +3,5 @@ pub mod Shape
 pub mod Read
 pub mod Sync
 pub mod Hears
-pub mod Follow
 pub mod Law
+pub mod Part

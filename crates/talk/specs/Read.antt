@@ -21,12 +21,12 @@ ascends before [] = true
 ascends before (x ∷ xs) = comes_first before x xs && ascends before xs
 
 -- the pair (a, b) comes before the pair (c, d)
-abbrev pub after : ℕ → ℕ → ℕ → ℕ → Bool
-after a b c d = ltb a c || (eqb a c && ltb b d)
+abbrev pub comes_before : ℕ → ℕ → ℕ → ℕ → Bool
+comes_before a b c d = ltb a c || (eqb a c && ltb b d)
 
 -- complaints go by instance, then by the receiver complained of
 abbrev pub complaint_before : Complaint → Complaint → Bool
-complaint_before c d = after c.instance c.against d.instance d.against
+complaint_before c d = comes_before c.instance c.against d.instance d.against
 
 abbrev pub complaint_in : Shape → Complaint → Bool
 complaint_in s c = ltb c.instance (instances s) && within 1 c.against s.receivers
@@ -36,7 +36,7 @@ complaints_ok s cs = ascends complaint_before cs && list_all (complaint_in s) cs
 
 -- reveals go by lane, then by receiver
 abbrev pub reveal_before : Reveal → Reveal → Bool
-reveal_before r q = after r.lane r.receiver q.lane q.receiver
+reveal_before r q = comes_before r.lane r.receiver q.lane q.receiver
 
 abbrev pub reveal_in : Shape → Reveal → Bool
 reveal_in s r =

@@ -1,5 +1,5 @@
 -- The setting of a phase: its committees, degrees and seats. Members, receivers and seats are numbered from 1.
-use Rattle.std.specs.Prelude.{◌≡◌, ℕ, ◌+◌, ◌*◌, ◌/◌, ◌%◌, ◌<◌, ◌≤◌, ◌⊎◌, refl, Bool, ◌&&◌, eqb, cond}
+use Rattle.std.specs.Prelude.{◌≡◌, ℕ, ◌+◌, ◌-◌, ◌*◌, ◌<◌, ◌≤◌, ◌⊎◌, refl, Bool, ◌&&◌, eqb, cond}
 use Rattle.std.specs.Coded.{Coded, code_by, coded×, coded_ℕ}
 use Rattle.std.proofs.Common.{leb}
 
@@ -43,11 +43,25 @@ pub record Lawful (s : Shape) : Type 0 where
   pub degree : s.degree ≤ s.bound
   pub committees : OneCommittee s ⊎ ((t : ℕ) × TwoCommittees s t)
 
--- a committee of n members of whom t may be faulty
-pub record IsCommittee (n t : ℕ) : Type 0 where
-  pub some_bad : 1 ≤ t
-  pub third : 3 * t < n
-  pub most : n ≤ 15
+-- the setting of a create by n members of whom t may be faulty
+abbrev pub create_shape : ℕ → ℕ → Shape
+create_shape n t = record { receivers = n; bound = t; degree = t; dealers = n; shift = 0; checks = 0 }
+
+-- the setting of a refresh: each dealer shares 0
+abbrev pub refresh_shape : ℕ → ℕ → Shape
+refresh_shape n t = record { receivers = n; bound = t; degree = t - 1; dealers = n; shift = 0; checks = 0 }
+
+-- the setting of a move from n members, of whom t may be faulty, to m others, of whom u may be
+abbrev pub move_shape : ℕ → ℕ → ℕ → ℕ → Shape
+move_shape n t m u = record { receivers = m; bound = u; degree = u; dealers = n; shift = n; checks = n - t - 1 }
+
+-- the setting in which masked values are handed to who lost a share: nothing is shared, and nothing opened
+abbrev pub hand_shape : ℕ → ℕ → Shape
+hand_shape n t = record { receivers = n; bound = t; degree = 0; dealers = n; shift = 0; checks = 0 }
+
+-- the setting in which products are opened to compare two keys: nothing is shared, and one place is opened in each lane
+abbrev pub open_shape : ℕ → ℕ → Shape
+open_shape n t = record { receivers = n; bound = t; degree = 0; dealers = n; shift = 0; checks = 1 }
 
 -- how many seats there are
 abbrev pub seats : Shape → ℕ
@@ -60,14 +74,6 @@ rounds s = cond (eqb s.checks 0) 5 6
 -- how many instances: five lanes for each dealer
 abbrev pub instances : Shape → ℕ
 instances s = s.dealers * 5
-
--- the dealer of instance i, from 1
-abbrev pub dealer_of : ℕ → ℕ
-dealer_of i = i / 5 + 1
-
--- the lane of instance i, from 0
-abbrev pub lane_of : ℕ → ℕ
-lane_of i = i % 5
 
 -- k is one of a to b
 abbrev pub within : ℕ → ℕ → ℕ → Bool

@@ -1,5 +1,5 @@
 -- The synchronous run of a phase over any minds.
-use Rattle.std.specs.Prelude.{◌≡◌, ℕ, ◌+◌, ◌-◌, ◌^◌, ◌<◌, Bool, true, false, ◌&&◌, eqb, cond, List, [], ◌∷◌, get_or, map}
+use Rattle.std.specs.Prelude.{◌≡◌, ℕ, ◌+◌, ◌-◌, ◌^◌, ◌<◌, Bool, true, false, ◌&&◌, eqb, cond, List, [], ◌∷◌, take, get_or, map}
 use Rattle.std.specs.Int.{bit_at}
 use Rattle.talk.specs.declared.messages.Post.{Post}
 use Rattle.talk.specs.declared.messages.Post.TheVariants.{Quiet}
@@ -46,17 +46,29 @@ heard_at s round mask words to = record { posts = posts_heard s round mask 1 wor
 abbrev pub IsMask : Shape → ℕ → Type 0
 IsMask s mask = mask < 2 ^ seats s
 
--- whether a seat may be in the mask now, given whether it was in the one before. A seat that was missing once is out: its word counts
--- as a pass. Who speaks is in the mask, who passes isn't, and who speaks late may be
+-- whether a seat may be in the mask now, given whether it was in the one before. A seat that was missing once is out: its
+-- word counts as a pass. Who speaks is in the mask, who passes isn't, and who speaks late may be
 abbrev pub MaySay : Bool → Bool → Say → Type 0
 MaySay before now (Speak p rs) = now ≡ before
 MaySay before now Pass = now ≡ false
 MaySay before now (PassThenSpeak p rs) = now ≡ true → before ≡ true
 
--- the mask is one that the words of the seats from `seat` on allow after the mask before
-abbrev pub Allowed : ℕ → ℕ → ℕ → List Say → Type 0
-Allowed before mask seat [] = Unit {0}
-Allowed before mask seat (w ∷ ws) = MaySay (has before seat) (has mask seat) w × Allowed before mask (seat + 1) ws
+-- the word of a seat that was cut counts as one said late
+abbrev pub said_when : Bool → Say → Say
+said_when true (Speak p rs) = PassThenSpeak p rs
+said_when true Pass = Pass
+said_when true (PassThenSpeak p rs) = PassThenSpeak p rs
+said_when false w = w
+
+-- nobody is cut in any round
+abbrev pub nobody : ℕ → ℕ
+nobody round = 0
+
+-- the mask is one that the words of the seats from `seat` on allow after the mask before, where the seats of the mask
+-- `cut` were cut
+abbrev pub Allowed : ℕ → ℕ → ℕ → ℕ → List Say → Type 0
+Allowed before mask cut seat [] = Unit {0}
+Allowed before mask cut seat (w ∷ ws) = MaySay (has before seat) (has mask seat) (said_when (has cut seat) w) × Allowed before mask cut (seat + 1) ws
 
 -- the word is said in time
 abbrev pub speaks : Say → Bool
@@ -110,11 +122,15 @@ module _ {M : Type 0} where
   sync w s round [] ms = ms
   sync w s round (mask ∷ masks) ms = sync w s (round + 1) masks (after_round w s round mask ms)
 
-  -- each mask is one that the words allow
-  abbrev pub AllAllowed : Ways M → Shape → ℕ → ℕ → List ℕ → List M → Type 0
-  AllAllowed w s round before [] ms = Unit {0}
-  AllAllowed w s round before (mask ∷ masks) ms =
-      IsMask s mask × Allowed before mask 1 (words_of w round ms) × AllAllowed w s (round + 1) mask masks (after_round w s round mask ms)
+  -- the words that are said in a round, when the rounds before it went by their masks
+  abbrev pub words_in : Ways M → Shape → List ℕ → List M → ℕ → List Say
+  words_in w s masks ms round = words_of w round (sync w s 1 (take (round - 1) masks) ms)
+
+  -- each mask is one that the words allow, where the seats of `cut round` were cut in that round
+  abbrev pub AllAllowed : Ways M → Shape → ℕ → ℕ → (ℕ → ℕ) → List ℕ → List M → Type 0
+  AllAllowed w s round before cut [] ms = Unit {0}
+  AllAllowed w s round before cut (mask ∷ masks) ms =
+      IsMask s mask × Allowed before mask (cut round) 1 (words_of w round ms) × AllAllowed w s (round + 1) mask cut masks (after_round w s round mask ms)
 
   -- in each mask is exactly who was in the one before and speaks in time
   abbrev pub AllSpoken : Ways M → Shape → ℕ → ℕ → List ℕ → List M → Type 0

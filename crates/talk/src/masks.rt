@@ -6,7 +6,7 @@ ghost use Rattle.talk.specs.Sync.{Spoken, all_seats, has};
 
 use crate::{Say, Setting};
 
-/// Whether a seat is in a mask: the bit of seat `s` is bit `s - 1`.
+/// Whether a seat is in a mask: the bit of seat `k` is bit `k - 1`.
 pub fn in_mask(mask: u32, seat: u32) -> bool
     requires { (1 ≤ seat) × (seat ≤ 30) }
     ensures { result ≡ has mask seat }
@@ -15,12 +15,12 @@ pub fn in_mask(mask: u32, seat: u32) -> bool
 }
 
 /// The mask of all seats of a setting.
-pub fn all_in(s: &Setting) -> u32
-    ensures is { result ≡ all_seats s.now }
-    ensures mask { result < 2 ^ seats s.now }
-    ensures few { seats s.now ≤ 30 }
+pub fn all_in(setting: &Setting) -> u32
+    ensures is { result ≡ all_seats setting.now }
+    ensures mask { result < 2 ^ seats setting.now }
+    ensures few { seats setting.now ≤ 30 }
 {
-    let shift = s.seats();
+    let shift = setting.seats();
     (1 << shift) - 1
 }
 

@@ -1,11 +1,21 @@
 //! What seats say and hear.
 
-ghost use Rattle.std.specs.Prelude.{◌≡◌, ◌≤◌, IfOk};
+ghost use Rattle.std.specs.Prelude.{◌≡◌, ◌-◌, ◌≤◌, IfOk, slice_index_or};
 ghost use Rattle.talk.specs.Sync.{post_in, ring_in, speaks};
 
 use crate::{ComplaintList, PostList, RevealList, RingList, VoteList};
-use field61::{Fe, FeList, OutOfMemory};
+use field61::{Fe, FeList};
+use lists::{OutOfMemory, TryCopy};
 use std::alloc::Global;
+
+/// The two values at the point where a row and a column cross.
+#[derive(Clone, Copy, Debug, Drop, PartialEq, Eq)]
+pub struct Crossing {
+    /// The value of a row.
+    pub row: Fe,
+    /// The value of a column.
+    pub column: Fe,
+}
 
 /// A receiver's public complaint of another receiver, in one instance: the crossing points that came
 /// from `against` don't fit the pair that the complaining receiver holds. A receiver whose own row and
@@ -84,11 +94,26 @@ pub struct Heard {
     pub rings: RingList,
 }
 
-impl Reveal {
-    /// An equal reveal.
-    pub fn copy(&self, alloc: Global) -> Result<Reveal, OutOfMemory>
-        ensures { IfOk result (λ r. r ≡ self.now) }
+impl Complaint {
+    /// The two values that the complaining receiver tells.
+    pub fn crossing(&self) -> Crossing
+        ensures { result ≡ record { row = self.now.u; column = self.now.v } }
     {
+        Crossing {
+            row: self.u,
+            column: self.v,
+        }
+    }
+}
+
+impl TryCopy for Complaint {
+    fn copy(&self, _alloc: Global) -> Result<Complaint, OutOfMemory> {
+        Ok(*self)
+    }
+}
+
+impl TryCopy for Reveal {
+    fn copy(&self, alloc: Global) -> Result<Reveal, OutOfMemory> {
         Ok(Reveal {
             lane: self.lane,
             receiver: self.receiver,
@@ -98,11 +123,8 @@ impl Reveal {
     }
 }
 
-impl Post {
-    /// An equal post.
-    pub fn copy(&self, alloc: Global) -> Result<Post, OutOfMemory>
-        ensures { IfOk result (λ p. p ≡ self.now) }
-    {
+impl TryCopy for Post {
+    fn copy(&self, alloc: Global) -> Result<Post, OutOfMemory> {
         match self {
             Post::Quiet => Ok(Post::Quiet),
             Post::Complaints { list } => Ok(Post::Complaints {
@@ -121,11 +143,8 @@ impl Post {
     }
 }
 
-impl Ring {
-    /// An equal ring message.
-    pub fn copy(&self, alloc: Global) -> Result<Ring, OutOfMemory>
-        ensures { IfOk result (λ r. r ≡ self.now) }
-    {
+impl TryCopy for Ring {
+    fn copy(&self, alloc: Global) -> Result<Ring, OutOfMemory> {
         match self {
             Ring::Nothing => Ok(Ring::Nothing),
             Ring::Dealt { list } => Ok(Ring::Dealt {
@@ -135,6 +154,19 @@ impl Ring {
                 list: list.copy(alloc)?,
             }),
         }
+    }
+}
+
+// A copy of the ring message for a seat, counted from 1: Nothing past the end of the list.
+fn ring_to(alloc: Global, rings: &RingList, to: u32) -> Result<Ring, OutOfMemory>
+    requires { 1 ≤ to }
+    ensures { IfOk result (λ r. r ≡ slice_index_or rings.now (to - 1) Ring.Nothing) }
+{
+    let place = to as usize - 1;
+    if place < rings.len() {
+        rings.at(place).copy(alloc)
+    } else {
+        Ok(Ring::Nothing)
     }
 }
 
@@ -166,16 +198,15 @@ impl Say {
         ensures { IfOk result (λ r. r ≡ ring_in to self.now) }
     {
         match self {
-            Say::Speak { rings, .. } => rings.copy_of(alloc, to as usize - 1),
+            Say::Speak { rings, .. } => ring_to(alloc, rings, to),
             Say::Pass => Ok(Ring::Nothing),
-            Say::PassThenSpeak { rings, .. } => rings.copy_of(alloc, to as usize - 1),
+            Say::PassThenSpeak { rings, .. } => ring_to(alloc, rings, to),
         }
     }
+}
 
-    /// An equal word.
-    pub fn copy(&self, alloc: Global) -> Result<Say, OutOfMemory>
-        ensures { IfOk result (λ w. w ≡ self.now) }
-    {
+impl TryCopy for Say {
+    fn copy(&self, alloc: Global) -> Result<Say, OutOfMemory> {
         match self {
             Say::Speak { post, rings } => Ok(Say::Speak {
                 post: post.copy(alloc)?,

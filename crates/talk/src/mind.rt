@@ -4,10 +4,10 @@ ghost use Rattle.std.specs.Prelude.{◌≡◌, ℕ, ◌+◌, ◌<◌, IfOk, OnOk
 ghost use Rattle.talk.specs.Shape.{Shape, rounds};
 ghost use Rattle.talk.specs.declared.messages.Say.{Say};
 ghost use Rattle.talk.specs.declared.messages.Heard.{Heard};
-ghost use Rattle.talk.specs.Hears.{AsRead, Kept, WordFits};
+ghost use Rattle.talk.specs.Hears.{AsRead, StaysMade, WordFits};
 
 use crate::{Heard, Say};
-use field61::OutOfMemory;
+use lists::OutOfMemory;
 use std::alloc::Global;
 
 /// What sits on a seat of a phase. In each round it says a word, and then hears what all seats said. Its
@@ -40,7 +40,7 @@ pub trait Mind: Drop {
         ensures word { IfOk result (λ w. w ≡ word self.old round) }
         ensures rings { IfOk result (λ w. (s : Shape) (seat : ℕ) → made_for self.old s seat → WordFits s seat w) }
         ensures after { OnOk result (self.new ≡ after_say self.old round) }
-        ensures kept { OnErr result (Kept (made_for self.old) (made_for self.new)) };
+        ensures kept { OnErr result (StaysMade (made_for self.old) (made_for self.new)) };
 
     /// Hears what was said in a round, as read for a setting and a seat for which it is made. Where memory
     /// is wanting, the mind is as it was.
@@ -51,10 +51,10 @@ pub trait Mind: Drop {
         ensures kept { OnErr result (self.new ≡ self.old) };
 
     /// Saying changes nothing of the settings and seats.
-    ghost say_keeps: { (m : Self) (round : ℕ) → may_say m round → Kept (made_for m) (made_for (after_say m round)) };
+    ghost say_keeps: { (m : Self) (round : ℕ) → may_say m round → StaysMade (made_for m) (made_for (after_say m round)) };
 
     /// Nor does hearing.
-    ghost hear_keeps: { (m : Self) (round : ℕ) (heard : Heard) → may_hear m round → Kept (made_for m) (made_for (after_hear m round heard)) };
+    ghost hear_keeps: { (m : Self) (round : ℕ) (heard : Heard) → may_hear m round → StaysMade (made_for m) (made_for (after_hear m round heard)) };
 
     /// After its word, the round may be heard.
     ghost hears_next: { (m : Self) (round : ℕ) → may_say m round → may_hear (after_say m round) round };

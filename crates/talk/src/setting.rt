@@ -1,8 +1,10 @@
 //! The setting of a phase.
 
 ghost use Rattle.std.specs.Prelude.{◌≡◌, ℕ, ◌+◌, ◌-◌, ◌*◌, ◌<◌, ◌≤◌};
-ghost use Rattle.talk.specs.Shape.{IsCommittee, instances, rounds, seats, deals, receives};
+ghost use Rattle.sizes.specs.Committees.{IsCommittee};
+ghost use Rattle.talk.specs.Shape.{create_shape, deals, hand_shape, instances, move_shape, open_shape, receives, refresh_shape, rounds, seats};
 
+use sizes::LANES;
 use std::marker::Model;
 
 /// The setting of a phase: who deals, who receives, how many receivers may be faulty, the degree of a
@@ -36,51 +38,71 @@ impl Model for Setting {
     ghost inverse = { λ v. record { receivers = v.receivers; bound = v.bound; degree = v.degree; dealers = v.dealers; shift = v.shift; checks = v.checks } };
 }
 
+// The setting in which one committee deals and receives on the same seats.
+fn among(members: u32, bound: u32, degree: u32, checks: u32) -> Setting
+    requires committee { IsCommittee members bound }
+    requires degree { degree ≤ bound }
+    requires checks { checks ≤ 1 }
+    ensures { result ≡ record { receivers = members; bound = bound; degree = degree; dealers = members; shift = 0; checks = checks } }
+{
+    Setting {
+        receivers: members,
+        bound,
+        degree,
+        dealers: members,
+        shift: 0,
+        checks,
+    }
+}
+
 impl Setting {
-    /// The setting in which `n` members, of whom `t` may be faulty, create a key.
-    pub fn create(n: u32, t: u32) -> Setting
-        requires { IsCommittee n t }
-        ensures { result ≡ record { receivers = n; bound = t; degree = t; dealers = n; shift = 0; checks = 0 } }
+    /// The setting in which members, of whom as many as the bound may be faulty, create a key.
+    pub fn create(members: u32, bound: u32) -> Setting
+        requires { IsCommittee members bound }
+        ensures { result ≡ create_shape members bound }
     {
-        Setting {
-            receivers: n,
-            bound: t,
-            degree: t,
-            dealers: n,
-            shift: 0,
-            checks: 0,
-        }
+        among(members, bound, bound, 0)
     }
 
     /// The setting in which they refresh its shares.
-    pub fn refresh(n: u32, t: u32) -> Setting
-        requires { IsCommittee n t }
-        ensures { result ≡ record { receivers = n; bound = t; degree = t - 1; dealers = n; shift = 0; checks = 0 } }
+    pub fn refresh(members: u32, bound: u32) -> Setting
+        requires { IsCommittee members bound }
+        ensures { result ≡ refresh_shape members bound }
+    {
+        among(members, bound, bound - 1, 0)
+    }
+
+    /// The setting in which they move it to other members, who have a bound of their own.
+    pub fn moving(members: u32, bound: u32, receivers: u32, new_bound: u32) -> Setting
+        requires old { IsCommittee members bound }
+        requires new { IsCommittee receivers new_bound }
+        ensures { result ≡ move_shape members bound receivers new_bound }
     {
         Setting {
-            receivers: n,
-            bound: t,
-            degree: t - 1,
-            dealers: n,
-            shift: 0,
-            checks: 0,
+            receivers,
+            bound: new_bound,
+            degree: new_bound,
+            dealers: members,
+            shift: members,
+            checks: members - bound - 1,
         }
     }
 
-    /// The setting in which they move it to `m` other members, of whom `u` may be faulty.
-    pub fn moving(n: u32, t: u32, m: u32, u: u32) -> Setting
-        requires old { IsCommittee n t }
-        requires new { IsCommittee m u }
-        ensures { result ≡ record { receivers = m; bound = u; degree = u; dealers = n; shift = n; checks = n - t - 1 } }
+    /// The setting in which they hand masked values to a member that lost its share. Nothing is shared in it.
+    pub fn handing(members: u32, bound: u32) -> Setting
+        requires { IsCommittee members bound }
+        ensures { result ≡ hand_shape members bound }
     {
-        Setting {
-            receivers: m,
-            bound: u,
-            degree: u,
-            dealers: n,
-            shift: n,
-            checks: n - t - 1,
-        }
+        among(members, bound, 0, 0)
+    }
+
+    /// The setting in which they open one value in each lane, to compare two keys. Nothing is shared in it, and it has
+    /// a sixth round.
+    pub fn opening(members: u32, bound: u32) -> Setting
+        requires { IsCommittee members bound }
+        ensures { result ≡ open_shape members bound }
+    {
+        among(members, bound, 0, 1)
     }
 
     /// How many members receive.
@@ -162,7 +184,7 @@ impl Setting {
         ensures least { 20 ≤ result }
         ensures most { result ≤ 75 }
     {
-        self.dealers * 5
+        self.dealers * LANES
     }
 
     /// The seat of a receiver.

@@ -7,7 +7,8 @@ ghost use Rattle.talk.specs.declared.messages.Ring.TheVariants.{Nothing};
 ghost use Rattle.talk.specs.declared.messages.Say.TheVariants.{Pass, PassThenSpeak, Speak};
 
 use super::*;
-use field61::{Fe, FeList, OutOfMemory};
+use field61::{Fe, FeList};
+use lists::{OutOfMemory, TryCopy};
 use std::alloc::Global;
 
 fn elements(alloc: Global, count: u32) -> Result<FeList, OutOfMemory> {

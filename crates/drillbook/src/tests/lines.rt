@@ -1,7 +1,8 @@
 //! Reading drills.
 
 use crate::{Drill, DrillFault, Order, Verb, read_drill};
-use field61::{Fe, OutOfMemory};
+use field61::Fe;
+use lists::OutOfMemory;
 use std::alloc::Global;
 use talk::Setting;
 

@@ -5,7 +5,8 @@ ghost use Rattle.talk.specs.Hears.{OneEach, WordFits};
 
 use super::numbers::{is_written, write_word};
 use crate::{DrillFault, Drilled, read_drill};
-use field61::{Fe, FeList, OutOfMemory};
+use field61::{Fe, FeList};
+use lists::{OutOfMemory, TryCopy};
 use std::alloc::Global;
 use talk::{
     Complaint, ComplaintList, Heard, Mind, Post, Reveal, RevealList, Ring, RingList, Say, Setting,

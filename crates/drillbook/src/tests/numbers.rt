@@ -2,7 +2,8 @@
 
 ghost use Rattle.std.specs.Prelude.{◌≡◌, ◌≤◌, true, length};
 
-use field61::{Fe, FeList, OutOfMemory};
+use field61::{Fe, FeList};
+use lists::OutOfMemory;
 use std::alloc::Global;
 use talk::{Complaint, Post, Reveal, Ring, RingList, Say};
 

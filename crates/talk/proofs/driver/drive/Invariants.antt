@@ -9,11 +9,11 @@ invariant-loop-round g l =
     let m = g.M.Mind in
     let w = ways m.word m.after_say m.after_hear in
     record {
-      all : length l.minds.items ≡ seats l.s;
+      all : length l.minds.items ≡ seats l.setting;
       count : length l.masks + 1 ≡ l.round;
-      now : l.minds.items ≡ sync w l.s 1 l.masks l.fn.minds.items;
-      spoken : AllSpoken w l.s 1 (all_seats l.s) l.masks l.fn.minds.items;
-      last : l.before ≡ last_mask (all_seats l.s) l.masks;
-      may : l.round ≤ rounds l.s → Hearing m.may_say l.round l.minds.items;
-      made : Seated m.made_for l.s 1 l.minds.items;
+      now : l.minds.items ≡ sync w l.setting 1 l.masks l.fn.minds.items;
+      spoken : AllSpoken w l.setting 1 (all_seats l.setting) l.masks l.fn.minds.items;
+      last : l.before ≡ last_mask (all_seats l.setting) l.masks;
+      may : l.round ≤ rounds l.setting → Hearing m.may_say l.round l.minds.items;
+      made : Seated m.made_for l.setting 1 l.minds.items;
     }

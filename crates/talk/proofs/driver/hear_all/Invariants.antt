@@ -10,8 +10,8 @@ invariant-loop-mind g l =
     record {
       seat : l.seat ≡ l.mind-index + 1;
       many : length l.mind-items ≡ length l.fn.minds.items;
-      changed : take l.mind-index l.mind-items ++ after_hears w l.s l.round l.mask l.words l.seat (drop l.mind-index l.mind-items)
-          ≡ after_hears w l.s l.round l.mask l.words 1 l.fn.minds.items;
+      changed : take l.mind-index l.mind-items ++ after_hears w l.setting l.round l.mask l.words l.seat (drop l.mind-index l.mind-items)
+          ≡ after_hears w l.setting l.round l.mask l.words 1 l.fn.minds.items;
       may : Hearing m.may_hear l.round (drop l.mind-index l.mind-items);
-      made : Seated m.made_for l.s l.seat (drop l.mind-index l.mind-items);
+      made : Seated m.made_for l.setting l.seat (drop l.mind-index l.mind-items);
     }

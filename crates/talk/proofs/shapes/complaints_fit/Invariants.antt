@@ -4,4 +4,4 @@ use Rattle.talk.proofs.Ascending.{complaints_from}
 use Rattle.talk.proofs.shapes.complaints_fit.Given as goal
 
 abbrev pub invariant-loop-complaint : goal.invariant-loop-complaint
-invariant-loop-complaint l = complaints_ok l.s l.list ≡ complaints_from l.s l.instance l.against (drop l.complaint-index l.list)
+invariant-loop-complaint l = complaints_ok l.setting l.list ≡ complaints_from l.setting l.instance l.against (drop l.complaint-index l.list)

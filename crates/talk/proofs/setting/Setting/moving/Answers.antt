@@ -9,5 +9,5 @@ invariant_of-result c =
       some_bad = omega arith;
       third = omega arith;
       degree = omega arith;
-      committees = inr (c.args.t, record { behind = refl; some_bad = omega arith; third = omega arith; checks = omega arith });
+      committees = inr (c.args.bound, record { behind = refl; some_bad = omega arith; third = omega arith; checks = omega arith });
     }
