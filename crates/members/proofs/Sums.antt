@@ -8,12 +8,13 @@ use Rattle.algebra61.specs.Poly.{eval}
 use Rattle.algebra61.specs.Grid.{row, grid_at}
 use Rattle.bivar61.specs.Sums.{sum_below}
 use Rattle.sharing61.specs.Rules.{Pair, zero_pair}
-use Rattle.sharing61.specs.Instance.{Honest, kept, accepted, share}
-use Rattle.sharing61.specs.Agreement.{Sound}
+use Rattle.sharing61.specs.Instance.{kept, accepted, share}
+use Rattle.sharing61.specs.Agreement.{HonestReceiver}
 use Rattle.sharing61.proofs.Values.{eval-poly}
-use Rattle.sharing61.proofs.Own.{honest_dealer}
-use Rattle.talk.specs.Shape.{instances, dealer_of}
-use Rattle.plays.specs.Play.{Play, instance_of, dealer_if, seat_of, lane_sum, created_share}
+use Rattle.plays.proofs.Proper.{honest_dealers_in_plays}
+use Rattle.talk.specs.Shape.{instances}
+use Rattle.sizes.specs.Instances.{dealer_of}
+use Rattle.plays.specs.Play.{Play, instance_of, seat_of, lane_sum, created_share}
 use Rattle.plays.specs.Law.{ProperPlay}
 use Rattle.plays.specs.Run.{done_stage}
 use Rattle.plays.specs.Said.{places}
@@ -58,20 +59,15 @@ done_is_play p j m d =
     }
 
 -- ---- where nobody is down
-honest_at : (p : Play) (i : ℕ) → p.down (dealer_of i) ≡ false → (instance_of p i).dealer ≡ Honest (p.grid i)
+receiver_honest : (p : Play) (i j : ℕ) → 1 ≤ j → j ≤ p.shape.receivers → p.down (seat_of p.shape j) ≡ false → HonestReceiver (instance_of p i) j
 unfolding instance_of
-honest_at p i e = ap (λ b. dealer_if b p i) e
-
-sound_at : (p : Play) (i j : ℕ) → 1 ≤ j → j ≤ p.shape.receivers → p.down (seat_of p.shape j) ≡ false → Sound (instance_of p i) j
-unfolding instance_of
-sound_at p i j from to up = record { from = from; to = to; up = up }
+receiver_honest p i j from to up = record { from = from; to = to; up = up }
 
 plain_share : (p : Play) (i j : ℕ) → ProperPlay p → NobodyDown p → i < instances p.shape → 1 ≤ j → j ≤ p.shape.receivers →
     share (instance_of p i) j ≡ grid_at (p.grid i) zeroₚ (fe j)
 plain_share p i j proper up lt from to =
-    let end = honest_dealer p.shape.degree (instance_of p i) (p.grid i)
-    (honest_at p i (up.dealers (dealer_of i) (omega arith) (omega (arith, lt)))) (proper i lt) in
-    ap (λ (q : Pair). eval q.row.coeffs zeroₚ) (end.own j (sound_at p i j from to (up.receivers j from to)))
+    let end = honest_dealers_in_plays p i proper lt (up.dealers (dealer_of i) (omega arith) (omega (arith, lt))) in
+    ap (λ (q : Pair). eval q.row.coeffs zeroₚ) (end.own j (receiver_honest p i j from to (up.receivers j from to)))
     ∙ eval-poly (row (p.grid i) (fe j)) zeroₚ
 
 plain_sum : (p : Play) (l j : ℕ) → ProperPlay p → NobodyDown p → l < 5 → 1 ≤ j → j ≤ p.shape.receivers → (n : ℕ) → n ≤ p.shape.dealers →

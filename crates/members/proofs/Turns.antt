@@ -8,11 +8,11 @@ use Rattle.talk.specs.declared.messages.Ring.TheVariants.{Nothing}
 use Rattle.talk.specs.declared.messages.Heard.{Heard}
 use Rattle.talk.specs.Shape.{Shape, seats, rounds, deals, receives}
 use Rattle.talk.specs.Hears.{OneEach, WordFits}
-use Rattle.plays.specs.Stage.{Stage, AtReady, AtDealt, AtCrossed, AtComplained, AtRevealed, AtDone, Speaks, stage_after, stage_ring, receiver_at}
+use Rattle.plays.specs.Stage.{Stage, AtReady, AtDealt, AtCrossed, AtComplained, AtRevealed, AtDone, IsTurn, stage_after, stage_ring, receiver_at}
 use Rattle.members.specs.Member.{Member, rings_said, member_word, member_after_hear}
 
 -- after hearing a round before the fifth, a seat speaks the next one
-pub speaks_next : (s : Shape) (me : ℕ) (own : List (List (List Fp))) (h : Heard) (stage : Stage) (round : ℕ) → Speaks round stage → round < 5 → Speaks (round + 1) (stage_after s me own h stage)
+pub speaks_next : (s : Shape) (me : ℕ) (own : List (List (List Fp))) (h : Heard) (stage : Stage) (round : ℕ) → IsTurn round stage → round < 5 → IsTurn (round + 1) (stage_after s me own h stage)
 speaks_next s me own h AtReady round e lt = omega (arith, e)
 speaks_next s me own h (AtDealt ps) round e lt = omega (arith, e)
 speaks_next s me own h (AtCrossed ps cs) round e lt = omega (arith, e)
@@ -49,6 +49,6 @@ five_rounds : (s : Shape) → s.checks ≡ 0 → rounds s ≡ 5
 five_rounds s e = ap (λ (n : ℕ). cond (eqb n 0) 5 6) e
 
 -- in a setting of five rounds, a member that hears a round which isn't the last speaks the next
-pub says_after : (m : Member) (round : ℕ) (h : Heard) (s : Shape) → s.checks ≡ 0 → Speaks round m.stage → round < rounds s → Speaks (round + 1) (member_after_hear m round h).stage
+pub says_after : (m : Member) (round : ℕ) (h : Heard) (s : Shape) → s.checks ≡ 0 → IsTurn round m.stage → round < rounds s → IsTurn (round + 1) (member_after_hear m round h).stage
 says_after m round h s e speaks less =
     speaks_next m.shape (receiver_at m.shape m.seat) m.grids h m.stage round speaks (omega (arith, less, five_rounds s e))

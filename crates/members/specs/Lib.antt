@@ -1,4 +1,3 @@
 pub mod Member
 pub mod Shares
-pub mod Transcripts
 pub mod Laws

@@ -8,7 +8,7 @@ use Rattle.talk.specs.declared.messages.Heard.{Heard}
 use Rattle.talk.specs.Shape.{Shape, seats}
 use Rattle.talk.specs.Sync.{Ways, ways}
 use Rattle.plays.specs.Said.{points_up_to}
-use Rattle.plays.specs.Stage.{Stage, AtReady, stage_after, stage_post, stage_ring, receiver_at}
+use Rattle.plays.specs.Stage.{Stage, AtReady, IsTurn, stage_after, stage_post, stage_ring, receiver_at}
 
 -- a member: the setting, its seat, the grids that it deals, lane by lane, and how far it has come
 pub record Member : Type 0 where
@@ -39,3 +39,7 @@ member_after_hear m round h = record m { stage = stage_after m.shape (receiver_a
 
 abbrev pub member_ways : Ways Member
 member_ways = ways member_word member_after_say member_after_hear
+
+-- the round is the member's
+abbrev pub member_turn : ℕ → Member → Type 0
+member_turn round m = IsTurn round m.stage

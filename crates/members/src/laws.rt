@@ -1,6 +1,9 @@
 //! Laws on members and plays. Each function's contract is a law, and its body is empty.
 
-ghost use Rattle.members.specs.Laws.{AreDone, DoneIsPlay, MembersEnd, PlainShares};
+ghost use Rattle.talk.specs.Sync.{ways};
+ghost use Rattle.members.specs.Laws.{AreDone, DoneIsPlay, EndAsPlay, HonestInMasks, MembersEnd, PlainShares, RunByTheRules};
+
+use talk::Mind;
 
 /// Where nobody is down, the created share of receiver j in a lane is the sum over all dealers of the value of the
 /// dealer's grid at 0 and j.
@@ -15,10 +18,22 @@ pub fn members_have_the_shares_of_their_play()
     ensures { DoneIsPlay }
 {}
 
-/// In a run of five rounds over members, of whom those on the honest seats begin with their own grids and the others
-/// with any, the member of each honest receiver comes to the end that the run's play defines.
+/// Where members on the honest seats begin a sharing with their own grids, and the honest seats are in the masks, the
+/// member of each honest receiver comes to the end that the run's play defines, whatever the others begin with.
 pub fn members_end_as_their_play()
     ensures { MembersEnd }
+{}
+
+/// Minds that go like members on the honest seats run by the rules of the sharing, and the mind of each honest receiver
+/// ends as the play of the run defines, whatever minds sit on the other seats.
+pub fn minds_end_as_their_play<M: Mind>()
+    ensures rules { RunByTheRules (ways M.word M.after_say M.after_hear) }
+    ensures ends { EndAsPlay (ways M.word M.after_say M.after_hear) }
+{}
+
+/// The honest seats are in each mask that the words allow, where none of them is cut.
+pub fn minds_stay_in_the_masks<M: Mind>()
+    ensures { HonestInMasks (ways M.word M.after_say M.after_hear) }
 {}
 
 /// After five rounds every member is done, whatever the masks are.

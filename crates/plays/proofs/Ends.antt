@@ -9,7 +9,8 @@ use Rattle.sharing61.proofs.Count.{how_many_same}
 use Rattle.sharing61.proofs.Agree.{short_held, short_shown}
 use Rattle.talk.specs.declared.messages.Post.{Post}
 use Rattle.talk.specs.declared.messages.Ring.{Ring}
-use Rattle.talk.specs.Shape.{instances, dealer_of, lane_of}
+use Rattle.talk.specs.Shape.{instances}
+use Rattle.sizes.specs.Instances.{dealer_of, lane_of}
 use Rattle.plays.specs.Read.{dealt_in, shown_in, voted_in}
 use Rattle.plays.specs.Play.{Play, instance_of, dealer_if, seat_of}
 use Rattle.plays.specs.Said.{dealt_by, dealt_heard, reveals_by, reveals_heard, votes_by, votes_heard, unless_down}

@@ -5,4 +5,6 @@ pub mod Lanes
 pub mod Shapes
 pub mod Steps
 pub mod Ends
+pub mod Proper
 pub mod Rounds
+pub mod Heard

@@ -5,7 +5,8 @@ use Rattle.std.proofs.lemmas.List.Concat.{flat_map-append}
 use Rattle.algebra61.specs.Field.{Fp}
 use Rattle.sharing61.specs.Rules.{Two}
 pub use Rattle.talk.proofs.Places.{places_step}
-use Rattle.talk.proofs.Places.{range_more, append_nil, flat_more}
+use Rattle.talk.proofs.Places.{range_more, flat_more}
+use Rattle.std.proofs.lemmas.List.{append-nil}
 use Rattle.plays.specs.Said.{points_up_to, cross_list, two_list}
 
 pub cross_more : (n : ℕ) (f : ℕ → Two) (xs : List Fp) → xs ≡ cross_list n f → (xs ++ (f n).u ∷ []) ++ (f n).v ∷ [] ≡ cross_list (n + 1) f
@@ -23,7 +24,7 @@ points_more f n =
     ap (λ k. flat_map f (range_with_len 1 k)) (add-one n)
     ∙ ap (flat_map f) (range_more 1 n)
     ∙ flat_map-append f (range_with_len 1 n) ((1 + n) ∷ [])
-    ∙ ap (λ ys. flat_map f (range_with_len 1 n) ++ ys) (append_nil (f (1 + n)) ∙ ap f z)
+    ∙ ap (λ ys. flat_map f (range_with_len 1 n) ++ ys) (append-nil (f (1 + n)) ∙ ap f z)
 
 pub points_step : {A : Type 0} (f : ℕ → List A) (k : ℕ) (old xs ys : List A) → 1 ≤ k → xs ≡ old ++ flat_map f (points_up_to (k - 1)) → ys ≡ xs ++ f k → ys ≡ old ++ flat_map f (points_up_to (k + 1 - 1))
 points_step f k old xs ys le e ey =

@@ -7,7 +7,7 @@ use Rattle.sharing61.specs.Rules.{Pair, Two}
 use Rattle.talk.specs.declared.messages.Complaint.{Complaint}
 use Rattle.talk.specs.declared.messages.Reveal.{Reveal}
 use Rattle.talk.specs.Shape.{Shape, instances, within}
-use Rattle.talk.specs.Read.{after, complaints_ok, reveals_ok}
+use Rattle.talk.specs.Read.{comes_before, complaints_ok, reveals_ok}
 use Rattle.talk.proofs.Ascending.{complaints_from, reveals_from, complaints_are, reveals_are}
 use Rattle.plays.specs.Said.{points_up_to, padded, pair_list, two_list, complaint_item, complaint_list, reveal_item, reveal_list, dealt_list, cross_list, vote_list}
 use Rattle.plays.proofs.Dealt.{length-padded}
@@ -17,7 +17,7 @@ use Rattle.plays.proofs.Dealt.{length-padded}
 abbrev Early : ℕ → ℕ → ℕ → ℕ → Type 0
 Early x y i k = (x < i) ⊎ ((x ≡ i) × (y < k))
 
-after_early : (x y i k : ℕ) → Early x y i k → after x y i k ≡ true
+after_early : (x y i k : ℕ) → Early x y i k → comes_before x y i k ≡ true
 after_early x y i k (inl lt) = or_left (ltb x i) (eqb x i && ltb y k) (lt-ltb x i lt)
 after_early x y i k (inr e) = or_right (ltb x i) (eqb x i && ltb y k) (and_from (eqb x i) (ltb y k) (eq-eqb x i e.0) (lt-ltb y k e.1))
 
@@ -61,7 +61,7 @@ complaint_goes : (s : Shape) (o : ℕ → ℕ → Option Two) (i k x y : ℕ) (q
     Rest (complaints_from s) i (k + 1) rest → complaints_from s x y (complaint_item i k q ++ rest) ≡ true
 complaint_goes s o i k x y None rest im k1 kn e h = h x y (later x y i k e)
 complaint_goes s o i k x y (Some t) rest im k1 kn e h =
-    and_from (after x y i k) _ (after_early x y i k e)
+    and_from (comes_before x y i k) _ (after_early x y i k e)
     (and_from (ltb i (instances s) && within 1 k s.receivers) _
     (and_from (ltb i (instances s)) _ (lt-ltb i (instances s) im) (within_from 1 k s.receivers k1 kn))
     (h i k (inr (refl, omega arith))))
@@ -80,7 +80,7 @@ reveal_goes s i k x y (Some p) rest im k1 kn e h =
     let d : ℕ = s.degree + 1 in
     let r : ℕ = length (padded d p.row.coeffs) in
     let c : ℕ = length (padded d p.column.coeffs) in
-    and_from (after x y i k) _ (after_early x y i k e)
+    and_from (comes_before x y i k) _ (after_early x y i k e)
     (and_from (ltb i 5 && (within 1 k s.receivers && (eqb r d && eqb c d))) _
     (and_from (ltb i 5) _ (lt-ltb i 5 im)
     (and_from (within 1 k s.receivers) _ (within_from 1 k s.receivers k1 kn)
@@ -95,7 +95,7 @@ reveals_shape s o =
     5 0 0 0 (omega arith) (inr (refl, omega arith))
 
 -- ---- the lengths of the others
-length-flat : {A : Type 0} (f : ℕ → List A) (n : ℕ) → ((k : ℕ) → length (f k) ≡ n) → (m a : ℕ) → length (flat_map f (range_with_len a m)) ≡ m * n
+pub length-flat : {A : Type 0} (f : ℕ → List A) (n : ℕ) → ((k : ℕ) → length (f k) ≡ n) → (m a : ℕ) → length (flat_map f (range_with_len a m)) ≡ m * n
 length-flat f n h zero a = omega arith
 length-flat f n h (suc m) a =
     let e : suc m * n ≡ n + m * n = omega arith in

@@ -4,4 +4,6 @@ pub mod Said
 pub mod Seat
 pub mod Law
 pub mod Stage
+pub mod Heard
+pub mod Transcript
 pub mod Run

@@ -5,10 +5,11 @@ use Rattle.algebra61.specs.Field.{Fp, zeroₚ, ◌+ₚ◌}
 use Rattle.sharing61.specs.Instance.{Dealer, Honest, Faulty, Instance, share}
 use Rattle.talk.specs.declared.messages.Post.{Post}
 use Rattle.talk.specs.declared.messages.Ring.{Ring}
-use Rattle.talk.specs.Shape.{Shape, dealer_of, lane_of}
+use Rattle.talk.specs.Shape.{Shape}
+use Rattle.sizes.specs.Instances.{dealer_of, lane_of}
 use Rattle.plays.specs.Read.{dealt_in, crossed_in, listed_in, shown_in, voted_in}
 
--- down seat: the seat is faulty, or takes no part; it may say anything
+-- down seat: the seat is faulty, or takes no part; it says what `post` and `ring` give, which is read only in its shape
 -- grid i: the grid of instance i, where its dealer is honest
 -- post round seat, ring round seat to: what a seat that is down says, as it is read
 pub record Play : Type 0 where

@@ -10,7 +10,8 @@ use Rattle.talk.specs.declared.messages.Post.{Post}
 use Rattle.talk.specs.declared.messages.Post.TheVariants.{Quiet}
 use Rattle.talk.specs.declared.messages.Ring.{Ring}
 use Rattle.talk.specs.declared.messages.Ring.TheVariants.{Nothing}
-use Rattle.talk.specs.Shape.{Shape, dealer_of, lane_of}
+use Rattle.talk.specs.Shape.{Shape}
+use Rattle.sizes.specs.Instances.{dealer_of, lane_of}
 use Rattle.plays.specs.Play.{seat_of}
 use Rattle.plays.specs.Read.{dealt_in, crossed_in, listed_in, shown_in, voted_in}
 

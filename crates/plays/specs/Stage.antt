@@ -8,12 +8,12 @@ use Rattle.talk.specs.declared.messages.Post.TheVariants.{Quiet, Complaints, Rev
 use Rattle.talk.specs.declared.messages.Ring.{Ring}
 use Rattle.talk.specs.declared.messages.Ring.TheVariants.{Nothing, Dealt, Cross}
 use Rattle.talk.specs.declared.messages.Heard.{Heard}
-use Rattle.talk.specs.Shape.{Shape, instances, deals, receives}
+use Rattle.talk.specs.Shape.{Shape, instances, within, deals, receives}
 use Rattle.plays.specs.Said.{places, complaint_list, reveal_list, vote_list, cross_list, dealt_list}
 use Rattle.plays.specs.Seat.{holds, complains, reveals, says_yes, keeps, heard_accepted, pair_at}
 
--- how far a seat has come, with what it keeps: the pairs by instance, the posts that it needs again, and what it is to
--- post next. A seat that only deals keeps the posts of the third round; what else stands here it doesn't use
+-- how far a seat has come, with what it keeps: the pairs by instance, the posts of the third or the fourth round as it
+-- heard them, and what it is to post next. A seat that only deals has no pairs, no complaints and no votes
 pub data Stage : Type 0 where
   AtReady : Stage
   AtDealt : List Pair → Stage
@@ -23,26 +23,34 @@ pub data Stage : Type 0 where
   AtDone : List Pair → List Bool → Stage
 
 -- the round in which a stage speaks
-abbrev pub Speaks : ℕ → Stage → Type 0
-Speaks round AtReady = round ≡ 1
-Speaks round (AtDealt ps) = round ≡ 2
-Speaks round (AtCrossed ps cs) = round ≡ 3
-Speaks round (AtComplained ps third) = round ≡ 4
-Speaks round (AtRevealed ps fourth votes) = round ≡ 5
-Speaks round (AtDone ps acc) = ⊥
+abbrev pub IsTurn : ℕ → Stage → Type 0
+IsTurn round AtReady = round ≡ 1
+IsTurn round (AtDealt ps) = round ≡ 2
+IsTurn round (AtCrossed ps cs) = round ≡ 3
+IsTurn round (AtComplained ps third) = round ≡ 4
+IsTurn round (AtRevealed ps fourth votes) = round ≡ 5
+IsTurn round (AtDone ps acc) = ⊥
 
--- the receiver on a seat
+-- the receiver on a seat, 0 on a seat before all receivers
 abbrev pub receiver_at : Shape → ℕ → ℕ
 receiver_at s seat = seat - s.shift
 
--- what a seat keeps after hearing a round. own is the list of the grids that it deals
+-- how many instances receiver me receives: none where there is no such receiver
+abbrev pub received : Shape → ℕ → ℕ
+received s me = cond (within 1 me s.receivers) (instances s) 0
+
+-- what a seat keeps after hearing a round, of the n instances that it receives. own is the list of the grids that it deals
+abbrev pub kept_of_round : ℕ → Shape → ℕ → List (List (List Fp)) → Heard → Stage → Stage
+kept_of_round n s me own h AtReady = AtDealt (map (holds s me own h.rings) (places n))
+kept_of_round n s me own h (AtDealt ps) = AtCrossed ps (complaint_list n s.receivers (complains s me ps h.rings))
+kept_of_round n s me own h (AtCrossed ps cs) = AtComplained ps h.posts
+kept_of_round n s me own h (AtComplained ps third) = AtRevealed ps h.posts (vote_list n (says_yes s me ps third h.posts))
+kept_of_round n s me own h (AtRevealed ps fourth votes) = AtDone (map (keeps s me ps fourth h.posts) (places n)) (map (heard_accepted s h.posts) (places n))
+kept_of_round n s me own h (AtDone ps acc) = AtDone ps acc
+
+-- what the seat of receiver me keeps after hearing a round
 abbrev pub stage_after : Shape → ℕ → List (List (List Fp)) → Heard → Stage → Stage
-stage_after s me own h AtReady = AtDealt (map (holds s me own h.rings) (places (instances s)))
-stage_after s me own h (AtDealt ps) = AtCrossed ps (complaint_list (instances s) s.receivers (complains s me ps h.rings))
-stage_after s me own h (AtCrossed ps cs) = AtComplained ps h.posts
-stage_after s me own h (AtComplained ps third) = AtRevealed ps h.posts (vote_list (instances s) (says_yes s me ps third h.posts))
-stage_after s me own h (AtRevealed ps fourth votes) = AtDone (map (keeps s me ps fourth h.posts) (places (instances s))) (map (heard_accepted s h.posts) (places (instances s)))
-stage_after s me own h (AtDone ps acc) = AtDone ps acc
+stage_after s me own h stage = kept_of_round (received s me) s me own h stage
 
 -- what a seat posts: a receiver its complaints and its votes, a dealer its reveals
 abbrev pub stage_post : Shape → ℕ → List (List (List Fp)) → Stage → Post

@@ -1,15 +1,15 @@
--- The sound receivers of an accepted instance are on one grid: d + 1 sound receivers that vote yes agree where they
--- cross, so they are on one grid; each further sound receiver agrees with them, so it is on the grid too.
+-- The honest receivers of an accepted instance are on one grid: d + 1 honest receivers that vote yes agree where they
+-- cross, so they are on one grid; each further honest receiver agrees with them, so it is on the grid too.
 use Rattle.std.proofs.Common.{◌≡◌, ℕ, suc, ◌+◌, ◌-◌, ◌<◌, ◌≤◌, Bool, true, false, ◌&&◌, not, List, [], ◌∷◌, length, Option, Some, None, refl, sym, ap, ◌∙◌, subst, arith, take}
 use Rattle.std.proofs.lemmas.Bool.{and_parts, leb-true, not-true}
 use Rattle.algebra61.specs.Field.{Fp, Prime}
 use Rattle.algebra61.specs.Poly.{Distinct}
-use Rattle.algebra61.specs.Grid.{AllShort, Degree, EachFacing, members, AllWithin, AllOnGrid}
+use Rattle.algebra61.specs.Grid.{AllShort, Degree, EachFacing, holder_points, AllWithin, AllOnGrid}
 use Rattle.algebra61.proofs.Grid.{crossing}
 use Rattle.sharing61.specs.Count.{anyone, how_many}
 use Rattle.sharing61.specs.Rules.{Pair, pair_on, off_grid, shown_if, kept_of, revealed_or}
 use Rattle.sharing61.specs.Instance.{Dealer, Honest, Faulty, Instance, held, held_from, complaint, shown, shown_from, vote, accepted, kept}
-use Rattle.sharing61.specs.Agreement.{Agreement, Proper, Sound, Short, Deals}
+use Rattle.sharing61.specs.Agreement.{Agreement, Proper, HonestReceiver, Short, Deals}
 use Rattle.algebra61.proofs.Further.{further}
 use Rattle.std.proofs.lemmas.List.{length-take-le}
 use Rattle.sharing61.proofs.Count.{picked, length-picked, how_many_apart}
@@ -17,16 +17,16 @@ use Rattle.sharing61.proofs.Values.{short_on, pair_same}
 use Rattle.sharing61.proofs.Votes.{Yes, yes_says, agree_open, agree_shown}
 use Rattle.sharing61.proofs.Team.{Each, each_picked, each_take, each_map, Falling, falling_picked, falling_take, member_at, team, length-team, distinct_team, Agrees, facing_team, faced_team}
 
--- ---- sound receivers that vote yes
+-- ---- honest receivers that vote yes
 pub record Voter (i : Instance) (k : ℕ) : Type 0 where
-  pub sound : Sound i k
+  pub honest : HonestReceiver i k
   pub yes : Yes i k
 
 agree_held : (i : Instance) (j k : ℕ) → Voter i j → Voter i k → Agrees i j (held i j) k
-agree_held i j k vj vk = agree_open i j vj.yes j k vj.sound vk.sound vj.yes.hidden vk.yes.hidden
+agree_held i j k vj vk = agree_open i j vj.yes j k vj.honest vk.honest vj.yes.hidden vk.yes.hidden
 
-agree_final : (i : Instance) (j k : ℕ) (o : Option Pair) → shown i j ≡ o → Sound i j → Voter i k → Agrees i j (revealed_or o (held i j)) k
-agree_final i j k None e sj vk = agree_open i k vk.yes j k sj vk.sound e vk.yes.hidden
+agree_final : (i : Instance) (j k : ℕ) (o : Option Pair) → shown i j ≡ o → HonestReceiver i j → Voter i k → Agrees i j (revealed_or o (held i j)) k
+agree_final i j k None e sj vk = agree_open i k vk.yes j k sj vk.honest e vk.yes.hidden
 agree_final i j k (Some p) e sj vk = agree_shown i k vk.yes j p sj e
 
 each_facing : (i : Instance) (all ks : List ℕ) → Each (Voter i) all → Each (Voter i) ks → EachFacing (team i ks) (team i all)
@@ -37,8 +37,8 @@ each_facing i all (k ∷ ks) va vk =
 voter : (i : Instance) (k : ℕ) → 1 ≤ k → k ≤ i.receivers → (vote i k && not (i.down k)) ≡ true → Voter i k
 voter i k a b e =
     let both : (vote i k ≡ true) × (not (i.down k) ≡ true) = and_parts (vote i k) (not (i.down k)) e in
-    let s : Sound i k = record { from = a; to = b; up = not-true (i.down k) both.1 } in
-    record { sound = s; yes = yes_says i k s both.0 }
+    let s : HonestReceiver i k = record { from = a; to = b; up = not-true (i.down k) both.1 } in
+    record { honest = s; yes = yes_says i k s both.0 }
 
 abbrev pub voters : Instance → List ℕ
 voters i = picked i.receivers (λ k. vote i k && not (i.down k))
@@ -95,14 +95,14 @@ unfolding kept
 kept_final i j e = ap (λ b. kept_of b (shown i j) (held i j)) e
 
 on_one : (d : ℕ) (i : Instance) (ks : List ℕ) (g : List (List Fp)) → Proper d i → length ks ≡ suc d → Falling ks → Each (Voter i) ks → Degree d g → AllOnGrid g (team i ks) →
-    (j : ℕ) → Sound i j → revealed_or (shown i j) (held i j) ≡ pair_on g j
+    (j : ℕ) → HonestReceiver i j → revealed_or (shown i j) (held i j) ≡ pair_on g j
 on_one d i ks g p len fall vs dg on j sj =
     let n : length (team i ks) ≡ d + 1 = omega (arith, length-team i ks, len) in
     let q : Pair = revealed_or (shown i j) (held i j) in
     let sq : Short d q = short_final d i j (shown i j) p.deals refl in
     let ag : Each (Agrees i j q) ks = each_map (Voter i) (Agrees i j q) (λ k v. agree_final i j k (shown i j) refl sj v) ks vs in
-    let dist : Distinct (members (team i ks)) =
-    distinct_team i ks fall (each_map (Voter i) (λ k. k < Prime) (λ k v. omega (arith, v.sound.to, p.small)) ks vs) in
+    let dist : Distinct (holder_points (team i ks)) =
+    distinct_team i ks fall (each_map (Voter i) (λ k. k < Prime) (λ k v. omega (arith, v.honest.to, p.small)) ks vs) in
     pair_same d g j q sq dg (omega (arith, p.degree, p.third, p.small))
     (further g (member_at j q) (team i ks) dist (omega (arith, dg.in_x)) (subst (λ m. AllShort m g) (sym n) dg.in_y) on
     (omega (arith, sq.across)) (omega (arith, sq.down)) (facing_team i j q ks ag) (faced_team i j q ks ag))
@@ -113,7 +113,7 @@ agreement d i p e =
     let len : length ks ≡ suc d = length-take-le (suc d) (voters i) (enough_voters d i p e) in
     let fall : Falling ks = falling_take (suc d) (voters i) (falling_picked i.receivers (λ k. vote i k && not (i.down k))) in
     let vs : Each (Voter i) ks = each_take (Voter i) (suc d) (voters i) (each_picked (Voter i) i.receivers (λ k. vote i k && not (i.down k)) (voter i)) in
-    let dist : Distinct (members (team i ks)) =
-    distinct_team i ks fall (each_map (Voter i) (λ k. k < Prime) (λ k v. omega (arith, v.sound.to, p.small)) ks vs) in
+    let dist : Distinct (holder_points (team i ks)) =
+    distinct_team i ks fall (each_map (Voter i) (λ k. k < Prime) (λ k v. omega (arith, v.honest.to, p.small)) ks vs) in
     let got = crossing d (team i ks) (omega (arith, length-team i ks, len)) dist (within_team d i ks p.deals) (each_facing i ks ks vs vs) in
     (got.0, got.1, λ j sj. kept_final i j e ∙ on_one d i ks got.0 p len fall vs got.1 got.2 j sj)

@@ -5,7 +5,7 @@ use Rattle.algebra61.specs.Field.{Fp}
 use Rattle.sharing61.specs.Count.{everyone, anyone, how_many}
 use Rattle.sharing61.specs.Rules.{Two, at_point, swapped, same_two, pair_on, two_on, unless_same, complaint_of, off_grid, shown_if, reveal_of, told_same, settled, fits, revealed_or}
 use Rattle.sharing61.specs.Instance.{Honest, Instance, held, held_from, crossing_pair, complaint, shown, shown_from, vote, accepted}
-use Rattle.sharing61.specs.Agreement.{HonestDealer, Proper, Sound}
+use Rattle.sharing61.specs.Agreement.{HonestDealer, Proper, HonestReceiver}
 use Rattle.sharing61.proofs.Count.{everyone_from, anyone_at, anyone_not, how_many_not, how_many_more, same_two-true, same_two_from}
 use Rattle.sharing61.proofs.Values.{at_pair_on}
 use Rattle.sharing61.proofs.Votes.{vote_is}
@@ -32,7 +32,7 @@ off_own : (g : List (List Fp)) (j k : ℕ) (mine : Two) (o : Option Two) → min
 off_own g j k mine None e = not_from_true _ (same_two_from mine (two_on g j k) e)
 off_own g j k mine (Some theirs) e = off_unless g j k (same_two theirs (swapped mine)) mine e
 
-pub hidden_own : (i : Instance) (g : List (List Fp)) (j : ℕ) → i.dealer ≡ Honest g → Sound i j → shown i j ≡ None
+pub hidden_own : (i : Instance) (g : List (List Fp)) (j : ℕ) → i.dealer ≡ Honest g → HonestReceiver i j → shown i j ≡ None
 hidden_own i g j e s =
     shown_own i g j e
     ∙ ap (λ b. shown_if b (pair_on g j))
@@ -57,7 +57,7 @@ settled_if g n k l cs ct k1 kn l1 ln false true eb ec = refl
 settled_if g n k l cs ct k1 kn l1 ln false false eb ec =
     told_if g k l (cs l) (ct k) (anyone_at n (λ m. off_grid g k m (cs m)) eb l l1 ln) (anyone_at n (λ m. off_grid g l m (ct m)) ec k k1 kn)
 
-pub yes_own : (i : Instance) (g : List (List Fp)) (j : ℕ) → i.dealer ≡ Honest g → Sound i j → vote i j ≡ true
+pub yes_own : (i : Instance) (g : List (List Fp)) (j : ℕ) → i.dealer ≡ Honest g → HonestReceiver i j → vote i j ≡ true
 yes_own i g j e s =
     let n : ℕ = i.receivers in
     vote_is i j s.up

@@ -2,7 +2,7 @@
 use Rattle.std.proofs.Common.{◌≡◌, ℕ, zero, suc, ◌<◌, ◌≤◌, Bool, true, false, List, [], ◌∷◌, length, refl, sym, ap, arith, take}
 use Rattle.algebra61.specs.Field.{Fp, Prime, fe}
 use Rattle.algebra61.specs.Poly.{Outside, Distinct}
-use Rattle.algebra61.specs.Grid.{Member, Facing, members}
+use Rattle.algebra61.specs.Grid.{Holder, Facing, holder_points}
 use Rattle.algebra61.proofs.Ring.{num-fe_small}
 use Rattle.sharing61.specs.Rules.{Pair, Two, at_point, swapped}
 use Rattle.sharing61.specs.Instance.{Instance, held}
@@ -49,10 +49,10 @@ falling_take zero ks f = tt
 falling_take (suc n) [] f = tt
 falling_take (suc n) (k ∷ ks) f = (each_take (λ j. j < k) n ks f.0, falling_take n ks f.1)
 
-abbrev pub member_at : ℕ → Pair → Member
+abbrev pub member_at : ℕ → Pair → Holder
 member_at j p = record { at = fe j; across = p.row.coeffs; down = p.column.coeffs }
 
-abbrev pub team : Instance → List ℕ → List Member
+abbrev pub team : Instance → List ℕ → List Holder
 team i [] = []
 team i (k ∷ ks) = member_at k (held i k) ∷ team i ks
 
@@ -63,11 +63,11 @@ length-team i (k ∷ ks) = ap suc (length-team i ks)
 apart_below : (n k : ℕ) → k < n → n < Prime → fe n ≡ fe k → ⊥
 apart_below n k lt h e = omega (arith, num-fe_small n h, num-fe_small k (omega arith), ap (λ (x : Fp). x.num) e)
 
-outside_team : (i : Instance) (n : ℕ) (ks : List ℕ) → n < Prime → Each (λ j. j < n) ks → Outside (fe n) (members (team i ks))
+outside_team : (i : Instance) (n : ℕ) (ks : List ℕ) → n < Prime → Each (λ j. j < n) ks → Outside (fe n) (holder_points (team i ks))
 outside_team i n [] h e = tt
 outside_team i n (k ∷ ks) h e = (apart_below n k e.0 h, outside_team i n ks h e.1)
 
-pub distinct_team : (i : Instance) (ks : List ℕ) → Falling ks → Each (λ j. j < Prime) ks → Distinct (members (team i ks))
+pub distinct_team : (i : Instance) (ks : List ℕ) → Falling ks → Each (λ j. j < Prime) ks → Distinct (holder_points (team i ks))
 distinct_team i [] f h = tt
 distinct_team i (k ∷ ks) f h = (outside_team i k ks h.0 f.0, distinct_team i ks f.1 h.1)
 

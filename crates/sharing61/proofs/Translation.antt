@@ -4,13 +4,13 @@ use Rattle.std.proofs.lemmas.Bool.{cond-true}
 use Rattle.algebra61.specs.Field.{Fp, Prime, fe, zeroₚ, ◌+ₚ◌, ◌*ₚ◌}
 use Rattle.algebra61.specs.Poly.{eval}
 use Rattle.algebra61.specs.Polynomial.{Polynomial, poly}
-use Rattle.algebra61.specs.Grid.{row, column, grid_at, Degree}
+use Rattle.algebra61.specs.Grid.{row, column, grid_at, Degree, add_product}
 use Rattle.algebra61.proofs.Ring.{mul_zero, zero_mul, add_zero, one_mul}
 use Rattle.algebra61.proofs.Grid.{eval-column}
-use Rattle.algebra61.proofs.Ext.{add_product, at_add_product}
+use Rattle.algebra61.proofs.Ext.{at_add_product}
 use Rattle.sharing61.specs.Rules.{Pair, Two, at_point, swapped, same_two, pair_on, two_on, unless_same, complaint_of, off_grid, shown_if}
 use Rattle.sharing61.specs.Instance.{Dealer, Honest, Instance, crossing_pair, complaint, shown, vote, share}
-use Rattle.sharing61.specs.Agreement.{Proper, Sound, Short, Deals}
+use Rattle.sharing61.specs.Agreement.{Proper, HonestReceiver, Short, Deals}
 use Rattle.sharing61.specs.Translation.{translated, Hides, InRange, OtherChoice}
 use Rattle.sharing61.proofs.Count.{anyone_same, same_two_from}
 use Rattle.sharing61.proofs.Values.{at_pair_on, eval-poly, poly_same, short_on}
@@ -105,7 +105,7 @@ votes_stay i g u h e j rj true dj = vote_down (translated i g u h) j dj ∙ sym 
 votes_stay i g u h e j rj false dj =
     yes_own (translated i g u h) (add_product g u h) j refl (record { from = rj.0; to = rj.1; up = dj }) ∙ sym (yes_own i g j e (record { from = rj.0; to = rj.1; up = dj }))
 
-share_own : (d : ℕ) (i : Instance) (g : List (List Fp)) (j : ℕ) → i.dealer ≡ Honest g → Proper d i → Sound i j → share i j ≡ grid_at g zeroₚ (fe j)
+share_own : (d : ℕ) (i : Instance) (g : List (List Fp)) (j : ℕ) → i.dealer ≡ Honest g → Proper d i → HonestReceiver i j → share i j ≡ grid_at g zeroₚ (fe j)
 share_own d i g j e p s = ap (λ (q : Pair). eval q.row.coeffs zeroₚ) ((honest_dealer d i g e p).own j s) ∙ eval-poly (row g (fe j)) zeroₚ
 
 deals_honest : (d : ℕ) (dl : Dealer) (g : List (List Fp)) → dl ≡ Honest g → Deals d dl → Degree d g

@@ -1,10 +1,10 @@
--- What a yes of a sound receiver says of all receivers.
+-- What a yes of a honest receiver says of all receivers.
 use Rattle.std.proofs.Common.{◌≡◌, ℕ, ◌≤◌, Bool, true, false, Option, Some, None, refl, sym, ap, ap₂, ◌∙◌, is_none}
 use Rattle.std.proofs.lemmas.Bool.{and_parts, cond-false}
 use Rattle.sharing61.specs.Count.{everyone}
 use Rattle.sharing61.specs.Rules.{Pair, Two, at_point, swapped, same_two, unless_same, complaint_of, told_same, settled, fits, votes_yes}
 use Rattle.sharing61.specs.Instance.{Instance, held, crossing_pair, complaint, shown, vote}
-use Rattle.sharing61.specs.Agreement.{Sound}
+use Rattle.sharing61.specs.Agreement.{HonestReceiver}
 use Rattle.sharing61.proofs.Count.{everyone_at, same_two-true}
 
 -- ---- what one vote says
@@ -21,7 +21,7 @@ pub record Yes (i : Instance) (y : ℕ) : Type 0 where
   pub fit : (k : ℕ) → 1 ≤ k → k ≤ i.receivers → fits y (held i y) k (shown i k) ≡ true
   pub settle : (k l : ℕ) → 1 ≤ k → k ≤ i.receivers → 1 ≤ l → l ≤ i.receivers → settled (shown i k) (shown i l) (complaint i k l) (complaint i l k) ≡ true
 
-pub yes_says : (i : Instance) (y : ℕ) → Sound i y → vote i y ≡ true → Yes i y
+pub yes_says : (i : Instance) (y : ℕ) → HonestReceiver i y → vote i y ≡ true → Yes i y
 yes_says i y s v =
     let n : ℕ = i.receivers in
     let a = and_parts (is_none (shown i y)) _ (sym (vote_is i y s.up) ∙ v) in
@@ -45,7 +45,7 @@ agree_cases true c s t eb ec h = sym (ap swapped (same_two-true t (swapped s) eb
 agree_cases false true s t eb ec h = same_two-true s (swapped t) ec
 agree_cases false false s t eb ec h = same_two-true s (swapped t) h
 
-pub agree_open : (i : Instance) (y : ℕ) → Yes i y → (j k : ℕ) → Sound i j → Sound i k → shown i j ≡ None → shown i k ≡ None →
+pub agree_open : (i : Instance) (y : ℕ) → Yes i y → (j k : ℕ) → HonestReceiver i j → HonestReceiver i k → shown i j ≡ None → shown i k ≡ None →
     at_point (held i j) k ≡ swapped (at_point (held i k) j)
 agree_open i y w j k sj sk nj nk =
     let at = w.settle j k sj.from sj.to sk.from sk.to in
@@ -54,7 +54,7 @@ agree_open i y w j k sj sk nj nk =
     (ap₂ told_same (sym (complaint_is i j k sj.up sk.up)) (sym (complaint_is i k j sk.up sj.up)) ∙ told)
 
 -- a revealed pair agrees with each that votes yes
-pub agree_shown : (i : Instance) (y : ℕ) → Yes i y → (k : ℕ) (p : Pair) → Sound i k → shown i k ≡ Some p → at_point p y ≡ swapped (at_point (held i y) k)
+pub agree_shown : (i : Instance) (y : ℕ) → Yes i y → (k : ℕ) (p : Pair) → HonestReceiver i k → shown i k ≡ Some p → at_point p y ≡ swapped (at_point (held i y) k)
 agree_shown i y w k p s e =
     let at = w.fit k s.from s.to in
     same_two-true (at_point p y) (swapped (at_point (held i y) k)) (rw e at at)

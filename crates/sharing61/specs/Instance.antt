@@ -1,11 +1,12 @@
--- One instance of a sharing, for all receivers at once. A receiver that is down is faulty and may say anything; the
--- others go by the rules.
+-- One instance of a sharing, for all receivers at once. A receiver that is down is faulty and sends, complains and votes as
+-- it likes; the others go by the rules.
 use Rattle.std.specs.Prelude.{ℕ, Bool, cond, List, Option, Some}
 use Rattle.algebra61.specs.Field.{Fp, zeroₚ}
 use Rattle.algebra61.specs.Poly.{eval}
 use Rattle.sharing61.specs.Rules.{Pair, Two, at_point, pair_on, complaint_of, reveal_of, votes_yes, enough, kept_of}
 
--- an honest dealer has a grid; a faulty one deals some pair to each receiver, and reveals some
+-- an honest dealer has a grid; a faulty one deals any pair to each receiver, and reveals any pairs. What is proved of it
+-- asks that their polynomials have the degree of the sharing: messages with more coefficients are not read
 pub data Dealer : Type 0 where
   Honest : List (List Fp) → Dealer
   Faulty : (ℕ → Pair) → (ℕ → Option Pair) → Dealer

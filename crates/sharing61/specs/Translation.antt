@@ -2,36 +2,44 @@
 use Rattle.std.specs.Prelude.{◌≡◌, ℕ, ◌≤◌, true, List}
 use Rattle.algebra61.specs.Field.{Fp, fe, zeroₚ, oneₚ, ◌+ₚ◌}
 use Rattle.algebra61.specs.Poly.{eval}
-use Rattle.algebra61.specs.Grid.{Degree}
-use Rattle.algebra61.proofs.Ext.{add_product}
+use Rattle.algebra61.specs.Grid.{Degree, add_product}
 use Rattle.sharing61.specs.Rules.{at_point}
 use Rattle.sharing61.specs.Instance.{Honest, Instance, held, complaint, shown, vote, accepted, share}
-use Rattle.sharing61.specs.Agreement.{Proper, Sound}
+use Rattle.sharing61.specs.Agreement.{Proper, HonestReceiver}
 
--- the instance in which u (x) * h (y) is added to the dealer's grid g
+-- the instance in which in_x (x) * in_y (y) is added to the dealer's grid
 abbrev pub translated : Instance → List (List Fp) → List Fp → List Fp → Instance
-translated i g u h = record i { dealer = Honest (add_product g u h) }
+translated instance grid in_x in_y = record instance { dealer = Honest (add_product grid in_x in_y) }
 
--- u is 1 at 0, and both u and h are 0 at every receiver that is down
-pub record Hides (i : Instance) (u h : List Fp) : Type 0 where
-  pub one : eval u zeroₚ ≡ oneₚ
-  pub across : (k : ℕ) → 1 ≤ k → k ≤ i.receivers → i.down k ≡ true → eval u (fe k) ≡ zeroₚ
-  pub down : (k : ℕ) → 1 ≤ k → k ≤ i.receivers → i.down k ≡ true → eval h (fe k) ≡ zeroₚ
+-- the first polynomial is 1 at 0, and both are 0 at every receiver that is down
+pub record Hides (instance : Instance) (in_x in_y : List Fp) : Type 0 where
+  pub one : eval in_x zeroₚ ≡ oneₚ
+  pub across : (receiver : ℕ) → 1 ≤ receiver → receiver ≤ instance.receivers → instance.down receiver ≡ true →
+      eval in_x (fe receiver) ≡ zeroₚ
+  pub down : (receiver : ℕ) → 1 ≤ receiver → receiver ≤ instance.receivers → instance.down receiver ≡ true →
+      eval in_y (fe receiver) ≡ zeroₚ
 
 abbrev pub InRange : Instance → ℕ → Type 0
-InRange i j = (1 ≤ j) × (j ≤ i.receivers)
+InRange instance receiver = (1 ≤ receiver) × (receiver ≤ instance.receivers)
 
 -- all that a receiver which is down gets, and all that is said in public, is the same in both
-pub record SameViews (i m : Instance) : Type 0 where
-  pub dealt : (j : ℕ) → InRange i j → i.down j ≡ true → held m j ≡ held i j
-  pub crossed : (j k : ℕ) → InRange i j → InRange i k → i.down j ≡ true → at_point (held m k) j ≡ at_point (held i k) j
-  pub complaints : (j k : ℕ) → InRange i j → InRange i k → complaint m j k ≡ complaint i j k
-  pub reveals : (j : ℕ) → InRange i j → shown m j ≡ shown i j
-  pub votes : (j : ℕ) → InRange i j → vote m j ≡ vote i j
-  pub accepts : accepted m ≡ accepted i
+pub record SameViews (first other : Instance) : Type 0 where
+  pub dealt : (receiver : ℕ) → InRange first receiver → first.down receiver ≡ true →
+      held other receiver ≡ held first receiver
+  pub crossed : (receiver sender : ℕ) → InRange first receiver → InRange first sender → first.down receiver ≡ true →
+      at_point (held other sender) receiver ≡ at_point (held first sender) receiver
+  pub complaints : (receiver against : ℕ) → InRange first receiver → InRange first against →
+      complaint other receiver against ≡ complaint first receiver against
+  pub reveals : (receiver : ℕ) → InRange first receiver → shown other receiver ≡ shown first receiver
+  pub votes : (receiver : ℕ) → InRange first receiver → vote other receiver ≡ vote first receiver
+  pub accepts : accepted other ≡ accepted first
 
--- the views stay, and each sound receiver's share rises by h's value
+-- Where the dealer is honest, few receivers are down and the sum has at most this degree, the views stay, and each honest
+-- receiver's share rises by the second polynomial's value
 abbrev pub OtherChoice : ℕ → Type 0
-OtherChoice d =
-    (i : Instance) (g : List (List Fp)) (u h : List Fp) → i.dealer ≡ Honest g → Proper d i → Degree d (add_product g u h) → Hides i u h →
-    SameViews i (translated i g u h) × ((j : ℕ) → Sound i j → share (translated i g u h) j ≡ share i j +ₚ eval h (fe j))
+OtherChoice degree =
+    (instance : Instance) (grid : List (List Fp)) (in_x in_y : List Fp) → instance.dealer ≡ Honest grid →
+    Proper degree instance →
+    Degree degree (add_product grid in_x in_y) → Hides instance in_x in_y →
+    SameViews instance (translated instance grid in_x in_y)
+    × ((receiver : ℕ) → HonestReceiver instance receiver → share (translated instance grid in_x in_y) receiver ≡ share instance receiver +ₚ eval in_y (fe receiver))
