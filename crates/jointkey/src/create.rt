@@ -1,26 +1,25 @@
 //! A member's mind.
 
-ghost use Rattle.std.specs.Prelude.{◌≡◌, ℕ, ◌+◌, ◌-◌, ◌*◌, ◌<◌, ◌≤◌, List, IfOk, OnOk, OnErr};
-ghost use Rattle.talk.specs.Shape.{Shape, seats};
-ghost use Rattle.talk.specs.Hears.{Kept, WordFits};
-ghost use Rattle.plays.specs.Stage.{Speaks};
+ghost use Rattle.std.specs.Prelude.{◌≡◌, ℕ, ◌+◌, ◌-◌, ◌*◌, ◌<◌, ◌≤◌, List, IfOk, Result, OnOk, OnErr};
+ghost use Rattle.talk.specs.Shape.{Shape};
+ghost use Rattle.talk.specs.Hears.{StaysMade, WordFits};
+ghost use Rattle.plays.specs.Stage.{IsTurn};
 ghost use Rattle.vss_core.specs.States.{FiveGrids};
 ghost use Rattle.chance61.specs.Draws.{five_grids_drawn};
 ghost use Rattle.members.specs.Member.{member_at, member_word, member_after_say, member_after_hear};
 ghost use Rattle.members.specs.Shares.{IsDone, member_shares, accepted_in};
 ghost use Rattle.members.proofs.Turns.{says_after};
-ghost use Rattle.jointkey.specs.Create.{MadeFor, create_shape};
+ghost use Rattle.jointkey.specs.Create.{MadeFor};
+ghost use Rattle.talk.specs.Shape.{create_shape};
 
-use crate::says::{post_of, rings_of};
-use crate::steps::{At, next};
-use crate::sums::{accepted_of, lane_shares};
 use bivar61::GridList;
 use chance61::Chance;
-use field61::{Fe, OutOfMemory};
+use field61::Fe;
+use lists::OutOfMemory;
+use sharer::Sharer;
 use std::alloc::Global;
 use std::marker::Model;
 use talk::{Heard, Mind, Say, Setting};
-use vss_core::{Dealer, Ready};
 
 /// A member's mind in the creation of a key by `N` members, 4 to 15. Contracts see a member of a sharing: the setting,
 /// the seat, which is its own number, the five grids that it deals, and how far it has come.
@@ -30,9 +29,7 @@ use vss_core::{Dealer, Ready};
 /// was.
 #[derive(Drop)]
 pub struct Create<const N: usize> {
-    me: u32,
-    dealer: Dealer,
-    at: At,
+    inner: Sharer,
 }
 
 impl<const N: usize> Model for Create<N> {
@@ -49,9 +46,9 @@ impl<const N: usize> Model for Create<N> {
 impl<const N: usize> Mind for Create<N> {
     ghost made_for = { MadeFor };
 
-    ghost may_say = { λ m round. Speaks round m.stage };
+    ghost may_say = { λ m round. IsTurn round m.stage };
 
-    ghost may_hear = { λ m round. Speaks round m.stage };
+    ghost may_hear = { λ m round. IsTurn round m.stage };
 
     ghost word = { member_word };
 
@@ -71,26 +68,14 @@ impl<const N: usize> Mind for Create<N> {
         ensures word { IfOk result (λ w. w ≡ member_word self.old round) }
         ensures rings { IfOk result (λ w. (s : Shape) (seat : ℕ) → MadeFor self.old s seat → WordFits s seat w) }
         ensures after { OnOk result (self.new ≡ self.old) }
-        ensures kept { OnErr result (Kept (MadeFor self.old) (MadeFor self.new)) }
+        ensures kept { OnErr result (StaysMade (MadeFor self.old) (MadeFor self.new)) }
         ensures same { OnErr result (self.new ≡ self.old) }
     {
-        let post = post_of(alloc, &self.at)?;
-        let rings = rings_of(alloc, &self.dealer, &self.at, self.me)?;
-        Ok(Say::Speak { post, rings })
+        self.inner.say(alloc)
     }
 
     fn hear(&mut self, alloc: Global, round: u32, heard: Heard) -> Result<(), OutOfMemory> {
-        let at = std::mem::replace(&mut self.at, At::Gone);
-        match next(alloc, at, &self.dealer, &heard) {
-            Ok(at) => {
-                self.at = at;
-                Ok(())
-            }
-            Err(at) => {
-                self.at = at;
-                Err(OutOfMemory)
-            }
-        }
+        self.inner.hear(alloc, &heard)
     }
 }
 
@@ -117,7 +102,7 @@ impl<const N: usize> Create<N> {
         Ok(Create::made(t, me, grids))
     }
 
-    /// The same with given grids, all of degree `t`, lane by lane.
+    /// The same with given grids, all of degree `t`, lane by lane. It takes no memory, and always answers `Ok`.
     pub fn with_grids(
         _alloc: Global,
         t: u32,
@@ -128,7 +113,7 @@ impl<const N: usize> Create<N> {
         requires bound { (1 ≤ t) × (3 * t < N) }
         requires member { (1 ≤ me) × (me ≤ N) }
         requires grids { FiveGrids t grids }
-        ensures { IfOk result (λ m. m ≡ member_at (create_shape N t) me grids) }
+        ensures { result ≡ Result.Ok (member_at (create_shape N t) me grids) }
     {
         Ok(Create::made(t, me, grids))
     }
@@ -141,11 +126,8 @@ impl<const N: usize> Create<N> {
         requires grids { FiveGrids t grids }
         ensures { result ≡ member_at (create_shape N t) me grids }
     {
-        let setting = Setting::create(N as u32, t);
         Create {
-            me,
-            dealer: Dealer::new(setting, me, grids),
-            at: At::Ready(Ready::new(setting, me)),
+            inner: Sharer::dealing(Setting::create(N as u32, t), me, grids),
         }
     }
 
@@ -155,10 +137,7 @@ impl<const N: usize> Create<N> {
         requires { IsDone self.now.stage }
         ensures { result ≡ member_shares self.now }
     {
-        match &self.at {
-            At::Done(done) => lane_shares(done, self.dealer.setting().dealers()),
-            _ => [Fe::ZERO; 5],
-        }
+        self.inner.shares()
     }
 
     /// How many instances are accepted. All rounds are heard. It takes no memory.
@@ -166,9 +145,6 @@ impl<const N: usize> Create<N> {
         requires { IsDone self.now.stage }
         ensures { result ≡ accepted_in self.now.stage }
     {
-        match &self.at {
-            At::Done(done) => accepted_of(done, self.dealer.setting().instances()),
-            _ => 0,
-        }
+        self.inner.accepted()
     }
 }

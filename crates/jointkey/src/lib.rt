@@ -5,9 +5,6 @@
 #![tactic(auto)]
 
 mod create;
-mod says;
-mod steps;
-mod sums;
 #[cfg(test)]
 mod tests;
 

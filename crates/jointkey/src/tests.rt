@@ -2,18 +2,23 @@
 
 ghost use Rattle.std.specs.Prelude.{◌≡◌, ℕ, ◌+◌, ◌*◌, ◌<◌, ◌≤◌, IfOk, All, length};
 ghost use Rattle.talk.specs.Hears.{Hearing, Seated};
-ghost use Rattle.plays.specs.Stage.{AtReady, Speaks};
+ghost use Rattle.talk.specs.Part.{part_made_for, part_may, part_ways};
+ghost use Rattle.plays.specs.Stage.{AtReady, IsTurn};
 ghost use Rattle.bivar61.specs.Grids.{IsGrid};
 ghost use Rattle.vss_core.specs.States.{FiveGrids};
+ghost use Rattle.members.specs.Laws.{EndAsPlay, HonestInMasks};
+ghost use Rattle.members.specs.Member.{member_ways};
 ghost use Rattle.members.specs.Shares.{IsDone};
-ghost use Rattle.jointkey.specs.Create.{MadeFor, create_shape};
+ghost use Rattle.jointkey.specs.Create.{MadeFor};
+ghost use Rattle.talk.specs.Shape.{create_shape};
 
 use super::*;
 use bivar61::{Grid, GridList};
 use chance61::Chance;
-use field61::{Fe, OutOfMemory};
+use field61::Fe;
+use lists::OutOfMemory;
 use std::alloc::Global;
-use talk::{Driven, Setting, drive};
+use talk::{Driven, Part, Setting, drive};
 
 // The grid of a member in a lane: 100 * me + lane + me * y + 7 * x + 3 * x * y.
 fn grid(alloc: Global, me: u32, lane: u32) -> Result<Grid, OutOfMemory>
@@ -41,7 +46,7 @@ fn grids(alloc: Global, me: u32) -> Result<GridList, OutOfMemory>
 fn member(alloc: Global, me: u32) -> Result<Create<4>, OutOfMemory>
     requires { (1 ≤ me) × (me ≤ 4) }
     ensures ready { IfOk result (λ m. m.stage ≡ AtReady) }
-    ensures speaks { IfOk result (λ m. Speaks 1 m.stage) }
+    ensures speaks { IfOk result (λ m. IsTurn 1 m.stage) }
     ensures made { IfOk result (λ m. MadeFor m (create_shape 4 1) me) }
 {
     Create::with_grids(alloc, 1, me, grids(alloc, me)?)
@@ -50,7 +55,7 @@ fn member(alloc: Global, me: u32) -> Result<Create<4>, OutOfMemory>
 // All four members.
 fn four(alloc: Global) -> Result<Vec<Create<4>>, OutOfMemory>
     ensures ready { IfOk result (λ v. All (λ m. m.stage ≡ AtReady) v.items) }
-    ensures speaks { IfOk result (λ v. Hearing (λ m round. Speaks round m.stage) 1 v.items) }
+    ensures speaks { IfOk result (λ v. Hearing (λ m round. IsTurn round m.stage) 1 v.items) }
     ensures made { IfOk result (λ v. Seated MadeFor (create_shape 4 1) 1 v.items) }
     ensures all { IfOk result (λ v. length v.items ≡ 4) }
 {
@@ -104,4 +109,76 @@ fn a_member_draws_twenty_elements(rt: HostRuntime) -> Result<(), OutOfMemory> {
     }
     assert_eq!(rt; chance.draw().get(), plain.draw().get());
     Ok(())
+}
+
+// A member that takes part.
+fn taking_part(alloc: Global, me: u32) -> Result<Part<Create<4>>, OutOfMemory>
+    requires { (1 ≤ me) × (me ≤ 4) }
+    ensures speaks { IfOk result (λ p. part_may (λ m round. IsTurn round m.stage) p 1) }
+    ensures made { IfOk result (λ p. part_made_for MadeFor p (create_shape 4 1) me) }
+{
+    let mind = member(alloc, me)?;
+    Ok(Part::In { mind })
+}
+
+// Three members take part, and the fourth is away.
+fn three(alloc: Global) -> Result<Vec<Part<Create<4>>>, OutOfMemory>
+    ensures speaks { IfOk result (λ v. Hearing (part_may (λ m round. IsTurn round m.stage)) 1 v.items) }
+    ensures made { IfOk result (λ v. Seated (part_made_for MadeFor) (create_shape 4 1) 1 v.items) }
+    ensures all { IfOk result (λ v. length v.items ≡ 4) }
+{
+    let mut minds = Vec::new(alloc);
+    minds.push(taking_part(alloc, 1)?)?;
+    minds.push(taking_part(alloc, 2)?)?;
+    minds.push(taking_part(alloc, 3)?)?;
+    minds.push(Part::Away)?;
+    Ok(minds)
+}
+
+// The create by these three.
+fn created_by_three(alloc: Global) -> Result<Driven<Part<Create<4>>>, OutOfMemory> {
+    let minds = three(alloc)?;
+    let setting = Setting::create(4, 1);
+    let driven = drive(alloc, minds, &setting)?;
+    Ok(driven)
+}
+
+// Who is away is in no mask, and the others are in each.
+#[test]
+fn a_member_that_is_away_passes(rt: HostRuntime) -> Result<(), OutOfMemory> {
+    let alloc = rt.alloc();
+    let driven = created_by_three(alloc)?;
+    assert!(rt; driven.masks.as_slice() == [7, 7, 7, 7, 7].as_slice());
+    assert_eq!(rt;
+        driven
+            .minds
+            .iter()
+            .filter(|part| part.mind().is_some())
+            .count(),
+        3
+    );
+    Ok(())
+}
+
+// The law on minds, at a create's member.
+fn creates_end_as_their_play()
+    ensures { EndAsPlay member_ways }
+{
+    members::laws::minds_end_as_their_play::<Create<4>>();
+}
+
+// The same of the masks, at a member that may be away.
+fn parts_stay_in_the_masks()
+    ensures { HonestInMasks (part_ways member_ways) }
+{
+    members::laws::minds_stay_in_the_masks::<Part<Create<4>>>();
+}
+
+#[test]
+fn laws_on_minds_hold_of_members() {
+    creates_end_as_their_play();
+    parts_stay_in_the_masks();
+    machines::laws::minds_go_like_their_machines::<Part<Create<4>>, Create<4>>();
+    machines::laws::who_speaks_stays_in_the_masks::<Part<Create<4>>, Create<4>>();
+    machines::laws::machines_are_heard::<Create<4>>();
 }

@@ -8,7 +8,7 @@ use Rattle.talk.specs.declared.messages.Post.{Post}
 use Rattle.talk.specs.Shape.{Shape}
 use Rattle.plays.specs.Said.{places}
 use Rattle.plays.specs.Seat.{heard_complaint}
-use Rattle.vss_core.specs.Told.{settled_where, settled_here}
+use Rattle.vss_core.specs.Complaints.{settled_where, settled_here}
 
 -- ---- tests of all receivers
 pub everyone_same : (n : ℕ) (f g : ℕ → Bool) → ((k : ℕ) → 1 ≤ k → k ≤ n → f k ≡ g k) → everyone n f ≡ everyone n g

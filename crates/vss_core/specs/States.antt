@@ -6,6 +6,7 @@ use Rattle.algebra61.specs.Field.{Fp, fp_code}
 use Rattle.bivar61.specs.Grids.{IsGrid}
 use Rattle.sharing61.specs.Rules.{Pair, Two}
 use Rattle.talk.specs.declared.messages.Complaint.{Complaint}
+use Rattle.talk.specs.declared.messages.Crossing.{Crossing}
 use Rattle.talk.specs.declared.messages.Reveal.{Reveal}
 use Rattle.talk.specs.declared.messages.Post.{Post}
 use Rattle.talk.specs.declared.messages.Ring.{Ring}
@@ -100,10 +101,17 @@ abbrev pub own_grids : Option (Bor DealerState) → List (List (List Fp))
 own_grids None = []
 own_grids (Some d) = d.now.grids
 
--- a row's value and a column's, as a record
-abbrev pub two_or : Option (Fp × Fp) → Option Two
+-- the two values at a crossing, as the rules of one instance have them
+abbrev pub two_of : Crossing → Two
+two_of c = record { u = c.row; v = c.column }
+
+abbrev pub two_or : Option Crossing → Option Two
 two_or None = None
-two_or (Some p) = Some (record { u = p.0; v = p.1 })
+two_or (Some c) = Some (two_of c)
+
+-- a crossing is stored as its two values
+abbrev pub crossing_code : Coded Crossing
+crossing_code = code_by _ (coded× fp_code fp_code) (λ c. (c.row, c.column)) (λ p. record { row = p.0; column = p.1 }) (λ _. refl)
 
 -- a dealer's message of degree d has the coefficients of five rows and columns
 abbrev pub DealtLong : ℕ → Ring → Type 0

@@ -7,7 +7,8 @@ ghost use Rattle.plays.specs.Seat.{says_yes};
 ghost use Rattle.vss_core.specs.States.{ComplainedState, RevealedState, IsReceiver, RoundPosts};
 
 use crate::votes::votes_of;
-use crate::{Kept, PairList, Revealed};
+use crate::{PairList, Revealed, StepError};
+use lists::TryCopy;
 use std::alloc::Global;
 use std::marker::Model;
 use talk::{PostList, Setting};
@@ -49,8 +50,20 @@ impl Complained {
         }
     }
 
+    /// The posts of the third round as they were heard, by seat.
+    pub fn third(&self) -> &PostList
+        ensures is { result.now ≡ self.now.third }
+        ensures all { length self.now.third ≡ seats self.now.shape }
+    {
+        &self.third
+    }
+
     /// Hears the fourth round: it votes, from the complaints and the reveals.
-    pub fn hear_reveals(self, alloc: Global, posts: &PostList) -> Result<Revealed, Kept<Complained>>
+    pub fn hear_reveals(
+        self,
+        alloc: Global,
+        posts: &PostList,
+    ) -> Result<Revealed, StepError<Complained>>
         requires { RoundPosts self.shape 4 posts.now }
         ensures { MatchResult result (λ r. r ≡ record { shape = self.shape; me = self.me; pairs = self.pairs; fourth = posts.now; votes = vote_list (instances self.shape) (says_yes self.shape self.me self.pairs self.third posts.now) }) (λ k. k.state ≡ self) }
     {
@@ -62,10 +75,10 @@ impl Complained {
             &self.third,
             posts,
         ) else {
-            return Err(Kept { state: self });
+            return Err(StepError { state: self });
         };
         let Ok(fourth) = posts.copy(alloc) else {
-            return Err(Kept { state: self });
+            return Err(StepError { state: self });
         };
         Ok(Revealed::made(self.setting, self.me, self.pairs, fourth, votes))
     }

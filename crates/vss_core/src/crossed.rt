@@ -7,14 +7,15 @@ ghost use Rattle.plays.specs.Said.{complaint_list, complaint_row, complaint_item
 ghost use Rattle.plays.specs.Play.{seat_of};
 ghost use Rattle.plays.specs.Read.{crossed_in};
 ghost use Rattle.plays.specs.Seat.{complains, ring_at};
-ghost use Rattle.vss_core.specs.States.{CrossedState, ComplainedState, IsReceiver, RoundRings, RoundPosts, two_or, cross_of};
+ghost use Rattle.vss_core.specs.States.{CrossedState, ComplainedState, IsReceiver, RoundRings, RoundPosts, two_of, two_or, cross_of};
 
 use crate::posts::crossing;
-use crate::{Complained, Kept, PairList, PolyPair};
-use field61::{Fe, OutOfMemory};
+use crate::{Complained, PairList, PolyPair, StepError};
+use field61::Fe;
+use lists::{OutOfMemory, TryCopy};
 use std::alloc::Global;
 use std::marker::Model;
-use talk::{Complaint, ComplaintList, PostList, RingList, Setting};
+use talk::{Complaint, ComplaintList, Crossing, PostList, RingList, Setting};
 
 /// A receiver after the second round. Contracts see its setting, its index, its pairs and its complaints.
 #[derive(Drop)]
@@ -69,13 +70,13 @@ impl Crossed {
         self,
         alloc: Global,
         posts: &PostList,
-    ) -> Result<Complained, Kept<Crossed>>
+    ) -> Result<Complained, StepError<Crossed>>
         requires { RoundPosts self.shape 3 posts.now }
         ensures { MatchResult result (λ c. c ≡ record { shape = self.shape; me = self.me; pairs = self.pairs; third = posts.now }) (λ k. k.state ≡ self) }
     {
         match posts.copy(alloc) {
             Ok(third) => Ok(Complained::made(self.setting, self.me, self.pairs, third)),
-            Err(_) => Err(Kept { state: self }),
+            Err(_) => Err(StepError { state: self }),
         }
     }
 }
@@ -136,17 +137,17 @@ fn complain(
     requires against { IsReceiver s.now k }
     ensures { OnOk result (list.new ≡ list.old ++ complaint_item i k (complaint_of (at_point pair.now k) (cross_of s.now me pair.now rings.now i k))) }
 {
-    let (u, v) = pair.at(k);
-    if let Some((a, b)) = crossing_of(s, me, (u, v), rings, i, k) {
-        if a == v && b == u {
+    let own = pair.at(k);
+    if let Some(theirs) = crossing_of(s, me, own, rings, i, k) {
+        if theirs.row == own.column && theirs.column == own.row {
             return Ok(());
         }
     }
     list.push(Complaint {
         instance: i,
         against: k,
-        u,
-        v,
+        u: own.row,
+        v: own.column,
     })
 }
 
@@ -154,16 +155,16 @@ fn complain(
 fn crossing_of(
     s: &Setting,
     me: u32,
-    mine: (Fe, Fe),
+    mine: Crossing,
     rings: &RingList,
     i: u32,
     k: u32,
-) -> Option<(Fe, Fe)>
+) -> Option<Crossing>
     requires receiver { IsReceiver s.now me }
     requires rings { RoundRings s.now 2 me rings.now }
     requires instance { i < instances s.now }
     requires against { IsReceiver s.now k }
-    ensures { two_or result ≡ cond (eqb k me) (Option.Some (record { u = mine.0; v = mine.1 })) (crossed_in i (ring_at rings.now (seat_of s.now k))) }
+    ensures { two_or result ≡ cond (eqb k me) (Option.Some (two_of mine)) (crossed_in i (ring_at rings.now (seat_of s.now k))) }
 {
     if k == me {
         return Some(mine);

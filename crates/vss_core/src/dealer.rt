@@ -10,13 +10,14 @@ ghost use Rattle.plays.specs.Seat.{heard_complaint, reveals};
 ghost use Rattle.vss_core.specs.States.{DealerState, IsDealer, IsReceiver, FiveGrids, RoundPosts, two_or, lane_items};
 
 use crate::PolyPair;
+use crate::complaints::ComplaintTables;
 use crate::pairs::{padded, push_padded};
-use crate::told::Told;
 use bivar61::{Grid, GridList};
-use field61::{Fe, FeList, OutOfMemory};
+use field61::{Fe, FeList};
+use lists::OutOfMemory;
 use std::alloc::Global;
 use std::marker::Model;
-use talk::{PostList, Reveal, RevealList, Setting};
+use talk::{Crossing, PostList, Reveal, RevealList, Setting};
 
 /// A dealer: one grid for each of the five lanes. Contracts see its setting, its index and its grids.
 #[derive(Drop)]
@@ -66,10 +67,10 @@ impl Dealer {
     /// What it posts in the fourth round, from the posts of the third: the pair of each receiver that told, in a
     /// complaint, values other than its grid's.
     pub fn reveals(&self, alloc: Global, posts: &PostList) -> Result<RevealList, OutOfMemory>
-        requires { RoundPosts self.now.shape 3 posts.now }
+        requires { length posts.now ≡ seats self.now.shape }
         ensures { IfOk result (λ l. l ≡ reveal_list self.now.shape.degree self.now.shape.receivers (reveals self.now.shape self.now.grids posts.now self.now.me)) }
     {
-        let told = Told::new(alloc, self.setting.instances(), posts)?;
+        let told = ComplaintTables::new(alloc, self.setting.instances(), posts)?;
         self.all_reveals(alloc, &told)
     }
 
@@ -82,7 +83,11 @@ impl Dealer {
     }
 
     // The reveals of all lanes.
-    fn all_reveals(&self, alloc: Global, posts: &Told<'_>) -> Result<RevealList, OutOfMemory>
+    fn all_reveals(
+        &self,
+        alloc: Global,
+        posts: &ComplaintTables<'_>,
+    ) -> Result<RevealList, OutOfMemory>
         requires { length posts.now ≡ seats self.now.shape }
         ensures { IfOk result (λ l. l ≡ reveal_list self.now.shape.degree self.now.shape.receivers (reveals self.now.shape self.now.grids posts.now self.now.me)) }
     {
@@ -97,7 +102,7 @@ impl Dealer {
     fn reveal_lane(
         &self,
         alloc: Global,
-        posts: &Told<'_>,
+        posts: &ComplaintTables<'_>,
         lane: u32,
         list: &mut RevealList,
     ) -> Result<(), OutOfMemory>
@@ -115,7 +120,7 @@ impl Dealer {
     fn reveal_one(
         &self,
         alloc: Global,
-        posts: &Told<'_>,
+        posts: &ComplaintTables<'_>,
         lane: u32,
         j: u32,
         list: &mut RevealList,
@@ -187,7 +192,7 @@ fn push_reveal(
 }
 
 // Whether some complaint of receiver j in instance i tells values other than the grid's.
-fn tells_off(s: &Setting, grid: &Grid, posts: &Told<'_>, i: u32, j: u32) -> bool
+fn tells_off(s: &Setting, grid: &Grid, posts: &ComplaintTables<'_>, i: u32, j: u32) -> bool
     requires receiver { IsReceiver s.now j }
     requires all { length posts.now ≡ seats s.now }
     ensures { result ≡ anyone s.now.receivers (λ k. off_grid grid.now j k (heard_complaint s.now posts.now i j k)) }
@@ -201,15 +206,15 @@ fn tells_off(s: &Setting, grid: &Grid, posts: &Told<'_>, i: u32, j: u32) -> bool
 }
 
 // Whether a complaint of j against k tells values other than the grid's.
-fn is_off(grid: &Grid, j: u32, k: u32, told: Option<(Fe, Fe)>) -> bool
+fn is_off(grid: &Grid, j: u32, k: u32, told: Option<Crossing>) -> bool
     ensures { result ≡ off_grid grid.now j k (two_or told) }
 {
     match told {
         None => false,
-        Some((u, v)) => {
+        Some(told) => {
             let x = Fe::reduce(u64::from(j));
             let y = Fe::reduce(u64::from(k));
-            u != grid.at(y, x) || v != grid.at(x, y)
+            told.row != grid.at(y, x) || told.column != grid.at(x, y)
         }
     }
 }

@@ -8,8 +8,9 @@ ghost use Rattle.plays.specs.Seat.{pair_at, complains};
 ghost use Rattle.vss_core.specs.States.{DealtState, CrossedState, IsReceiver, RoundRings};
 
 use crate::crossed::complaints_of;
-use crate::{Crossed, Kept, PairList};
-use field61::{FeList, OutOfMemory};
+use crate::{Crossed, PairList, StepError};
+use field61::FeList;
+use lists::OutOfMemory;
 use std::alloc::Global;
 use std::marker::Model;
 use talk::{RingList, Setting};
@@ -55,13 +56,13 @@ impl Dealt {
 
     /// Hears the second round: it complains, in each instance, of each receiver whose crossing pair isn't its own,
     /// swapped, and of itself where its row and column differ at its own point.
-    pub fn hear_crosses(self, alloc: Global, rings: &RingList) -> Result<Crossed, Kept<Dealt>>
+    pub fn hear_crosses(self, alloc: Global, rings: &RingList) -> Result<Crossed, StepError<Dealt>>
         requires { RoundRings self.shape 2 self.me rings.now }
         ensures { MatchResult result (λ c. c ≡ record { shape = self.shape; me = self.me; pairs = self.pairs; complaints = complaint_list (instances self.shape) self.shape.receivers (complains self.shape self.me self.pairs rings.now) }) (λ k. k.state ≡ self) }
     {
         match complaints_of(alloc, &self.setting, self.me, &self.pairs, rings) {
             Ok(complaints) => Ok(Crossed::made(self.setting, self.me, self.pairs, complaints)),
-            Err(_) => Err(Kept { state: self }),
+            Err(_) => Err(StepError { state: self }),
         }
     }
 }
@@ -72,9 +73,9 @@ fn cross_points(alloc: Global, pairs: &PairList, receiver: u32) -> Result<FeList
 {
     let mut list = FeList::new(alloc);
     for i in 0..pairs.len() {
-        let (u, v) = pairs.at(i).at(receiver);
-        list.push(u)?;
-        list.push(v)?;
+        let own = pairs.at(i).at(receiver);
+        list.push(own.row)?;
+        list.push(own.column)?;
     }
     Ok(list)
 }

@@ -1,19 +1,20 @@
 //! Rows with their columns.
 
-ghost use Rattle.std.specs.Prelude.{◌≡◌, ℕ, ◌+◌, ◌*◌, ◌<◌, ◌≤◌, List, [], ◌∷◌, ◌++◌, length, IfOk, MatchResult, slice_index_or, take, drop};
+ghost use Rattle.std.specs.Prelude.{◌≡◌, ◌+◌, ◌*◌, ◌<◌, ◌≤◌, ◌++◌, length, IfOk};
 ghost use Rattle.algebra61.specs.Field.{Fp};
 ghost use Rattle.algebra61.specs.Polynomial.{poly};
 ghost use Rattle.sharing61.specs.Rules.{Pair, Two, at_point, pair_on, zero_pair};
 ghost use Rattle.plays.specs.Read.{dealt_in, part};
-ghost use Rattle.vss_core.specs.States.{DealtLong};
+ghost use Rattle.vss_core.specs.States.{DealtLong, two_of};
 ghost use Rattle.plays.specs.Said.{padded, pair_list};
 
 use bivar61::Grid;
-use field61::{Fe, FeList, OutOfMemory};
+use field61::{Fe, FeList};
+use lists::{List, OutOfMemory, TryCopy};
 use poly61::Poly;
 use std::alloc::Global;
 use std::marker::Model;
-use talk::Ring;
+use talk::{Crossing, Ring};
 
 /// A row and a column: what a receiver holds of an instance.
 #[derive(Drop)]
@@ -76,17 +77,19 @@ impl PolyPair {
     }
 
     /// The values of the row and of the column at a receiver's point.
-    pub fn at(&self, receiver: u32) -> (Fe, Fe)
-        ensures { result ≡ ((at_point self.now receiver).u, (at_point self.now receiver).v) }
+    pub fn at(&self, receiver: u32) -> Crossing
+        ensures { two_of result ≡ at_point self.now receiver }
     {
         let x = Fe::reduce(u64::from(receiver));
-        (self.row.eval(x), self.column.eval(x))
+        Crossing {
+            row: self.row.eval(x),
+            column: self.column.eval(x),
+        }
     }
+}
 
-    /// An equal pair.
-    pub fn copy(&self, alloc: Global) -> Result<PolyPair, OutOfMemory>
-        ensures { IfOk result (λ p. p ≡ self.now) }
-    {
+impl TryCopy for PolyPair {
+    fn copy(&self, alloc: Global) -> Result<PolyPair, OutOfMemory> {
         Ok(PolyPair {
             row: self.row.copy(alloc)?,
             column: self.column.copy(alloc)?,
@@ -95,56 +98,7 @@ impl PolyPair {
 }
 
 /// Pairs, one for each instance. Contracts see the list of them.
-#[derive(Drop)]
-pub struct PairList {
-    items: Vec<PolyPair>,
-}
-
-impl Model for PairList {
-    ghost use Rattle.std.specs.Prelude.{List};
-    ghost use Rattle.std.specs.Coded.{coded_list};
-    ghost use Rattle.sharing61.specs.Rules.{Pair};
-    ghost use Rattle.plays.specs.Seat.{pair_code};
-
-    ghost Value = { List Pair };
-
-    ghost coded = { coded_list pair_code };
-
-    ghost view = { λ a. a.items.items };
-}
-
-impl PairList {
-    /// The empty list.
-    pub fn new(alloc: Global) -> PairList
-        ensures { result ≡ [] }
-    {
-        PairList {
-            items: Vec::new(alloc),
-        }
-    }
-
-    /// Puts a pair at the end. Where memory is wanting, the list is as it was.
-    pub fn push(&mut self, item: PolyPair) -> Result<(), OutOfMemory>
-        ensures { MatchResult result (λ _. self.new ≡ self.old ++ item ∷ []) (λ _. self.new ≡ self.old) }
-    {
-        self.items.push(item).map_err(|_| OutOfMemory)
-    }
-
-    /// How many there are.
-    pub fn len(&self) -> usize
-        ensures { result ≡ length self.now }
-    {
-        self.items.len()
-    }
-
-    /// The one at place `k`, counted from 0.
-    pub fn at(&self, k: usize) -> &PolyPair
-        requires { k < length self.now }
-        ensures { result.now ≡ slice_index_or self.now k zero_pair }
-    {
-        &self.items[k]
-    }
-}
+pub type PairList = List<PolyPair>;
 
 // The first n coefficients of a polynomial, zeros past the last, at the end of the list.
 pub(crate) fn push_padded(list: &mut FeList, p: &Poly, n: usize) -> Result<(), OutOfMemory>

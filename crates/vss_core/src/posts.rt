@@ -5,13 +5,13 @@ ghost use Rattle.plays.specs.Read.{crossed_in, complaint_at, listed_in, reveal_a
 ghost use Rattle.vss_core.specs.States.{CrossLong, two_or};
 
 use crate::PolyPair;
-use field61::{Fe, OutOfMemory};
+use lists::OutOfMemory;
 use poly61::Poly;
 use std::alloc::Global;
-use talk::{ComplaintList, Post, Reveal, RevealList, Ring};
+use talk::{ComplaintList, Crossing, Post, Reveal, RevealList, Ring};
 
 // The crossing pair of instance i in a message of the second round.
-pub(crate) fn crossing(ring: &Ring, instances: u32, i: u32) -> Option<(Fe, Fe)>
+pub(crate) fn crossing(ring: &Ring, instances: u32, i: u32) -> Option<Crossing>
     requires long { CrossLong instances ring.now }
     requires instance { i < instances }
     requires few { instances ≤ 75 }
@@ -20,14 +20,17 @@ pub(crate) fn crossing(ring: &Ring, instances: u32, i: u32) -> Option<(Fe, Fe)>
     match ring {
         Ring::Cross { list } => {
             let at = 2 * i as usize;
-            Some((*list.at(at), *list.at(at + 1)))
+            Some(Crossing {
+                row: *list.at(at),
+                column: *list.at(at + 1),
+            })
         }
         Ring::Nothing | Ring::Dealt { .. } => None,
     }
 }
 
 // The complaint of instance i against k in a post.
-pub(crate) fn complaint_in(post: &Post, i: u32, k: u32) -> Option<(Fe, Fe)>
+pub(crate) fn complaint_in(post: &Post, i: u32, k: u32) -> Option<Crossing>
     ensures { two_or result ≡ listed_in i k post.now }
 {
     match post {
@@ -37,12 +40,12 @@ pub(crate) fn complaint_in(post: &Post, i: u32, k: u32) -> Option<(Fe, Fe)>
 }
 
 // The first complaint of instance i against k.
-fn complaint_at(list: &ComplaintList, i: u32, k: u32) -> Option<(Fe, Fe)>
+fn complaint_at(list: &ComplaintList, i: u32, k: u32) -> Option<Crossing>
     ensures { two_or result ≡ complaint_at i k list.now }
 {
     for complaint in list.as_slice() {
         if complaint.instance == i && complaint.against == k {
-            return Some((complaint.u, complaint.v));
+            return Some(complaint.crossing());
         }
     }
     None

@@ -8,8 +8,8 @@ ghost use Rattle.plays.specs.Seat.{holds};
 ghost use Rattle.vss_core.specs.States.{ReadyState, DealtState, IsReceiver, RoundRings, own_grids};
 
 use crate::pairs::dealt_pair;
-use crate::{Dealer, Dealt, Kept, PairList, PolyPair};
-use field61::OutOfMemory;
+use crate::{Dealer, Dealt, PairList, PolyPair, StepError};
+use lists::OutOfMemory;
 use std::alloc::Global;
 use std::marker::Model;
 use talk::{RingList, Setting};
@@ -47,13 +47,13 @@ impl Ready {
         alloc: Global,
         rings: &RingList,
         own: Option<&Dealer>,
-    ) -> Result<Dealt, Kept<Ready>>
+    ) -> Result<Dealt, StepError<Ready>>
         requires { RoundRings self.shape 1 self.me rings.now }
         ensures { MatchResult result (λ d. d ≡ record { shape = self.shape; me = self.me; pairs = map (holds self.shape self.me (own_grids own.entry) rings.now) (places (instances self.shape)) }) (λ k. k.state ≡ self) }
     {
         match held_pairs(alloc, &self.setting, self.me, rings, own) {
             Ok(pairs) => Ok(Dealt::made(self.setting, self.me, pairs)),
-            Err(_) => Err(Kept { state: self }),
+            Err(_) => Err(StepError { state: self }),
         }
     }
 }

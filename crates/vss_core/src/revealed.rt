@@ -11,8 +11,8 @@ ghost use Rattle.sharing61.specs.Rules.{Pair, kept_of};
 ghost use Rattle.vss_core.specs.States.{RevealedState, DoneState, IsReceiver, RoundPosts};
 
 use crate::posts::{revealed_in, voted_in};
-use crate::{Done, Kept, PairList, PolyPair};
-use field61::OutOfMemory;
+use crate::{Done, PairList, PolyPair, StepError};
+use lists::{OutOfMemory, TryCopy};
 use std::alloc::Global;
 use std::marker::Model;
 use talk::{PostList, Setting, VoteList};
@@ -63,6 +63,13 @@ impl Revealed {
         }
     }
 
+    /// The posts of the fourth round as they were heard, by seat.
+    pub fn fourth(&self) -> &PostList
+        ensures { result.now ≡ self.now.fourth }
+    {
+        &self.fourth
+    }
+
     /// The votes that it posts in the fifth round, one for each instance.
     pub fn votes(&self, alloc: Global) -> Result<VoteList, OutOfMemory>
         ensures { IfOk result (λ l. l ≡ self.now.votes) }
@@ -72,12 +79,12 @@ impl Revealed {
 
     /// Hears the fifth round: in an instance with at least receivers - bound votes it has the revealed pair, where it
     /// is revealed, else the one that it held; in any other two zero polynomials.
-    pub fn hear_votes(self, alloc: Global, posts: &PostList) -> Result<Done, Kept<Revealed>>
+    pub fn hear_votes(self, alloc: Global, posts: &PostList) -> Result<Done, StepError<Revealed>>
         requires { RoundPosts self.shape 5 posts.now }
         ensures { MatchResult result (λ d. d ≡ record { shape = self.shape; me = self.me; kept = map (keeps self.shape self.me self.pairs self.fourth posts.now) (places (instances self.shape)); accepted = map (heard_accepted self.shape posts.now) (places (instances self.shape)) }) (λ k. k.state ≡ self) }
     {
         let Ok(accepted) = all_accepted(alloc, &self.setting, posts) else {
-            return Err(Kept { state: self });
+            return Err(StepError { state: self });
         };
         let Ok(kept) = kept_pairs(
             alloc,
@@ -87,7 +94,7 @@ impl Revealed {
             &self.fourth,
             posts,
         ) else {
-            return Err(Kept { state: self });
+            return Err(StepError { state: self });
         };
         Ok(Done::made(self.setting, self.me, kept, accepted))
     }

@@ -7,7 +7,8 @@ ghost use Rattle.vss_core.specs.States.{IsReceiver, RoundPosts, RoundRings};
 mod skewed;
 
 use super::*;
-use field61::{Fe, FeList, OutOfMemory, P};
+use field61::{Fe, FeList, P};
+use lists::OutOfMemory;
 use std::alloc::Global;
 use talk::{
     Post, PostList, Reveal, RevealList, Ring, RingList, Setting, VoteList, as_read, ring_as_read,

@@ -3,19 +3,20 @@
 ghost use Rattle.std.specs.Prelude.{◌≡◌, ℕ, ◌+◌, ◌-◌, ◌<◌, ◌≤◌, Bool, List, [], length, IfOk, is_none, map};
 ghost use Rattle.sharing61.specs.Count.{everyone};
 ghost use Rattle.sharing61.specs.Rules.{Pair, fits, settled, told_same, votes_yes};
-ghost use Rattle.talk.specs.Shape.{Shape, seats, instances, lane_of};
+ghost use Rattle.talk.specs.Shape.{Shape, seats, instances};
+ghost use Rattle.sizes.specs.Instances.{lane_of};
 ghost use Rattle.plays.specs.Read.{shown_in};
 ghost use Rattle.plays.specs.Said.{vote_list, places};
 ghost use Rattle.plays.specs.Seat.{says_yes, heard_complaint, heard_shown, pair_at};
 ghost use Rattle.vss_core.specs.States.{IsReceiver, two_or};
-ghost use Rattle.vss_core.specs.Told.{settled_here};
+ghost use Rattle.vss_core.specs.Complaints.{settled_here};
 
+use crate::complaints::ComplaintTables;
 use crate::posts::{is_hidden, revealed_in};
-use crate::told::Told;
 use crate::{PairList, PolyPair};
-use field61::{Fe, OutOfMemory};
+use lists::OutOfMemory;
 use std::alloc::Global;
-use talk::{Post, PostList, Setting, VoteList};
+use talk::{Crossing, Post, PostList, Setting, VoteList};
 
 // The votes on all instances.
 pub(crate) fn votes_of(
@@ -32,10 +33,10 @@ pub(crate) fn votes_of(
     requires fourth { length fourth.now ≡ seats s.now }
     ensures { IfOk result (λ l. l ≡ vote_list (instances s.now) (says_yes s.now me pairs.now third.now fourth.now)) }
 {
-    let told = Told::new(alloc, s.instances(), third)?;
+    let complaints = ComplaintTables::new(alloc, s.instances(), third)?;
     let mut votes = VoteList::new(alloc);
     for i in 0..s.instances() {
-        votes.push(vote_on(alloc, s, me, pairs.at(i as usize), &told, fourth, i)?)?;
+        votes.push(vote_on(alloc, s, me, pairs.at(i as usize), &complaints, fourth, i)?)?;
     }
     Ok(votes)
 }
@@ -47,7 +48,7 @@ fn vote_on(
     s: &Setting,
     me: u32,
     pair: &PolyPair,
-    third: &Told<'_>,
+    third: &ComplaintTables<'_>,
     fourth: &PostList,
     i: u32,
 ) -> Result<bool, OutOfMemory>
@@ -60,6 +61,23 @@ fn vote_on(
     let dealers = s.dealers();
     prove!(i / 5 < dealers);
     let reveals = fourth.at((i / 5) as usize);
+    let vote = vote_by(alloc, s, me, pair, third, reveals, i)?;
+    Ok(vote)
+}
+
+// The same from what the dealer of the instance reveals.
+fn vote_by(
+    alloc: Global,
+    s: &Setting,
+    me: u32,
+    pair: &PolyPair,
+    third: &ComplaintTables<'_>,
+    reveals: &Post,
+    i: u32,
+) -> Result<bool, OutOfMemory>
+    requires { length third.now ≡ seats s.now }
+    ensures { IfOk result (λ b. b ≡ votes_yes s.now.receivers (heard_complaint s.now third.now i) (λ j. shown_in (lane_of i) j reveals.now) me pair.now) }
+{
     let hidden = is_hidden(reveals, i % 5, me);
     let fit = all_fit(alloc, s, me, pair, reveals, i % 5)?;
     let settled = all_settled(alloc, s, third, reveals, i)?;
@@ -99,9 +117,9 @@ fn one_fits(
     match revealed_in(alloc, reveals, lane, k)? {
         None => Ok(true),
         Some(theirs) => {
-            let (u, v) = pair.at(k);
-            let (a, b) = theirs.at(me);
-            Ok(a == v && b == u)
+            let own = pair.at(k);
+            let other = theirs.at(me);
+            Ok(other.row == own.column && other.column == own.row)
         }
     }
 }
@@ -110,7 +128,7 @@ fn one_fits(
 fn all_settled(
     alloc: Global,
     s: &Setting,
-    third: &Told<'_>,
+    third: &ComplaintTables<'_>,
     reveals: &Post,
     i: u32,
 ) -> Result<bool, OutOfMemory>
@@ -138,7 +156,7 @@ fn all_hidden(
 }
 
 // Whether all are settled, where `hidden` says which receivers are not revealed. Each two are looked at once.
-fn each_two_settled(s: &Setting, third: &Told<'_>, hidden: &[bool], i: u32) -> bool
+fn each_two_settled(s: &Setting, third: &ComplaintTables<'_>, hidden: &[bool], i: u32) -> bool
     requires posts { length third.now ≡ seats s.now }
     requires hidden { length hidden.now ≡ s.now.receivers }
     ensures { result ≡ everyone s.now.receivers (λ k. everyone k (settled_here s.now third.now hidden.now i k)) }
@@ -151,7 +169,7 @@ fn each_two_settled(s: &Setting, third: &Told<'_>, hidden: &[bool], i: u32) -> b
 }
 
 // The same for one receiver k and those up to it.
-fn settled_up_to(s: &Setting, third: &Told<'_>, hidden: &[bool], i: u32, k: u32) -> bool
+fn settled_up_to(s: &Setting, third: &ComplaintTables<'_>, hidden: &[bool], i: u32, k: u32) -> bool
     requires posts { length third.now ≡ seats s.now }
     requires hidden { length hidden.now ≡ s.now.receivers }
     requires receiver { IsReceiver s.now k }
@@ -167,7 +185,14 @@ fn settled_up_to(s: &Setting, third: &Told<'_>, hidden: &[bool], i: u32, k: u32)
 }
 
 // The same for two receivers.
-fn is_settled(s: &Setting, third: &Told<'_>, hidden: &[bool], i: u32, k: u32, l: u32) -> bool
+fn is_settled(
+    s: &Setting,
+    third: &ComplaintTables<'_>,
+    hidden: &[bool],
+    i: u32,
+    k: u32,
+    l: u32,
+) -> bool
     requires posts { length third.now ≡ seats s.now }
     requires hidden { length hidden.now ≡ s.now.receivers }
     requires first { IsReceiver s.now k }
@@ -183,11 +208,11 @@ fn is_settled(s: &Setting, third: &Told<'_>, hidden: &[bool], i: u32, k: u32, l:
 }
 
 // Whether two complaints, where both are there, tell the same values, swapped.
-fn tell_the_same(one: Option<(Fe, Fe)>, other: Option<(Fe, Fe)>) -> bool
+fn tell_the_same(one: Option<Crossing>, other: Option<Crossing>) -> bool
     ensures { result ≡ told_same (two_or one) (two_or other) }
 {
     match (one, other) {
-        (Some((u, v)), Some((a, b))) => u == b && v == a,
+        (Some(one), Some(other)) => one.row == other.column && one.column == other.row,
         _ => true,
     }
 }

@@ -1,8 +1,8 @@
 use Rattle.std.proofs.Common.{◌+◌, ◌∙◌, ap, Bool, List, is_none, length}
 use Rattle.sharing61.specs.Count.{everyone}
-use Rattle.talk.specs.Shape.{lane_of}
+use Rattle.sizes.specs.Instances.{lane_of}
 use Rattle.plays.specs.Read.{shown_in}
-use Rattle.vss_core.specs.Told.{settled_here}
+use Rattle.vss_core.specs.Complaints.{settled_here}
 use Rattle.vss_core.proofs.Settled.{all_settled_is}
 use Rattle.vss_core.proofs.Steps.{mapped_length}
 use Rattle.vss_core.proofs.votes.all_settled.Goals as goal

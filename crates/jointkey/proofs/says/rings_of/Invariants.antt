@@ -1,8 +1,0 @@
-use Rattle.std.proofs.Common.{◌≡◌, ◌-◌, map}
-use Rattle.plays.specs.Said.{points_up_to}
-use Rattle.plays.specs.Stage.{stage_ring}
-use Rattle.jointkey.specs.View.{stage_of}
-use Rattle.jointkey.proofs.says.rings_of.Given as goal
-
-abbrev pub invariant-loop-to : goal.invariant-loop-to
-invariant-loop-to l = l.rings ≡ map (stage_ring l.dealer.shape l.me l.dealer.grids (stage_of l.at)) (points_up_to (l.to - 1))

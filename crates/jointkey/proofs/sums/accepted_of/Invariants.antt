@@ -1,9 +1,0 @@
-use Rattle.std.proofs.Common.{◌≡◌, ◌≤◌, take}
-use Rattle.std.specs.List.{count_by}
-use Rattle.jointkey.proofs.sums.accepted_of.Given as goal
-
-abbrev pub invariant-loop-i : goal.invariant-loop-i
-invariant-loop-i l = record {
-  counted : l.count ≡ count_by (λ b. b) (take l.i l.done.accepted);
-  small : l.count ≤ l.i;
-}

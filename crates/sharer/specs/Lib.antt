@@ -1,0 +1,2 @@
+pub mod Sharer
+pub mod View
