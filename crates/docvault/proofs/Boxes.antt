@@ -20,7 +20,7 @@ use Rattle.docvault.specs.declared.fault.BoxFault.TheVariants.{OutOfMemory}
 use Rattle.docvault.specs.Keys.{enc_key_of, mac_key_of}
 use Rattle.docvault.specs.Hmac.{hmac_of}
 use Rattle.docvault.specs.Box.{keystream_byte, IsSealed, box_magic, box_head, tagged, IsBox}
-use Rattle.docvault.specs.Opening.{number_in, size_in, box_fault, IsFault, Opens}
+use Rattle.docvault.specs.Opening.{document_number_in, size_in, box_fault, IsFault, Opens}
 
 -- ---- the keystream undoes itself
 
@@ -95,12 +95,12 @@ fault-none key name bytes fine =
 -- ---- what is opened has this box
 
 -- the bytes from the head on
-head_taken : (key : List Fp) (name bytes : List ℕ) → IsBytes bytes → IsFine key name bytes → bytes ≡ box_head name (number_in bytes) (length bytes - 80) ++ drop 48 bytes
+head_taken : (key : List Fp) (name bytes : List ℕ) → IsBytes bytes → IsFine key name bytes → bytes ≡ box_head name (document_number_in bytes) (length bytes - 80) ++ drop 48 bytes
 head_taken key name bytes fits fine =
     let long = fine.long in
     let tail16 : drop 16 bytes ≡ padded name ++ drop 48 bytes = sym (take-append-drop 32 (drop 16 bytes)) ∙ ap (λ (t : List ℕ). t ++ drop 32 (drop 16 bytes)) fine.named ∙ ap (λ (t : List ℕ). padded name ++ t) (drop-drop 32 16 bytes) in
     let tail8 : drop 8 bytes ≡ to_be_bytes w64 (length bytes - 80) ++ (padded name ++ drop 48 bytes) = number_8_at bytes 8 fits (omega arith) ∙ ap (λ (n : ℕ). to_be_bytes w64 n ++ drop 16 bytes) fine.size ∙ ap (λ (t : List ℕ). to_be_bytes w64 (length bytes - 80) ++ t) tail16 in
-    let tail4 : drop 4 bytes ≡ to_be_bytes w32 (number_in bytes) ++ (to_be_bytes w64 (length bytes - 80) ++ (padded name ++ drop 48 bytes)) = number_at bytes 4 fits (omega arith) ∙ ap (λ (t : List ℕ). to_be_bytes w32 (number_in bytes) ++ t) tail8 in
+    let tail4 : drop 4 bytes ≡ to_be_bytes w32 (document_number_in bytes) ++ (to_be_bytes w64 (length bytes - 80) ++ (padded name ++ drop 48 bytes)) = number_at bytes 4 fits (omega arith) ∙ ap (λ (t : List ℕ). to_be_bytes w32 (document_number_in bytes) ++ t) tail8 in
     sym (take-append-drop 4 bytes) ∙ ap (λ (t : List ℕ). t ++ drop 4 bytes) fine.front ∙ ap (λ (t : List ℕ). 68 ∷ 75 ∷ 66 ∷ 49 ∷ t) tail4
 
 -- a text with what stands behind it, where the text has all but the last 32 bytes
@@ -109,7 +109,7 @@ split_at_tag head sealed rest bytes e long =
     let joined : bytes ≡ (head ++ sealed) ++ rest = e ∙ sym (append_assoc head sealed rest) in
     ap (take (length bytes - 32)) joined ∙ take_at (head ++ sealed) rest (length bytes - 32) (length-append head sealed ∙ long)
 
-pub IsBox-found : (key : List Fp) (name bytes document : List ℕ) → IsBytes bytes → IsTrue (is_key_name name) → box_fault key name bytes ≡ None → IsSealed (enc_key_of key) (number_in bytes) (slice_range bytes 48 (length bytes - 32)) document → IsBox key name (number_in bytes) document bytes
+pub IsBox-found : (key : List Fp) (name bytes document : List ℕ) → IsBytes bytes → IsTrue (is_key_name name) → box_fault key name bytes ≡ None → IsSealed (enc_key_of key) (document_number_in bytes) (slice_range bytes 48 (length bytes - 32)) document → IsBox key name (document_number_in bytes) document bytes
 IsBox-found key name bytes document fits is none opened =
     let fine = IsFine-from key name bytes none in
     let long = fine.long in
@@ -118,17 +118,17 @@ IsBox-found key name bytes document fits is none opened =
     let size : length sealed ≡ length bytes - 80 = ap length part ∙ omega (arith, length-take (length bytes - 80) (drop 48 bytes), length-drop 48 bytes) in
     let rest : drop (length bytes - 80) (drop 48 bytes) ≡ drop (length bytes - 32) bytes = drop-drop (length bytes - 80) 48 bytes ∙ ap (λ (k : ℕ). drop k bytes) {y = length bytes - 32} (omega arith) in
     let behind : drop 48 bytes ≡ sealed ++ drop (length bytes - 32) bytes = sym (take-append-drop (length bytes - 80) (drop 48 bytes)) ∙ ap (λ (t : List ℕ). t ++ drop (length bytes - 80) (drop 48 bytes)) (sym part) ∙ ap (λ (t : List ℕ). sealed ++ t) rest in
-    let head : List ℕ = box_head name (number_in bytes) (length bytes - 80) in
+    let head : List ℕ = box_head name (document_number_in bytes) (length bytes - 80) in
     let whole : bytes ≡ head ++ (sealed ++ drop (length bytes - 32) bytes) = head_taken key name bytes fits fine ∙ ap (λ (t : List ℕ). head ++ t) behind in
-    let text : take (length bytes - 32) bytes ≡ head ++ sealed = split_at_tag head sealed (drop (length bytes - 32) bytes) bytes whole (omega (arith, length-box_head name (number_in bytes) (length bytes - 80) is)) in
+    let text : take (length bytes - 32) bytes ≡ head ++ sealed = split_at_tag head sealed (drop (length bytes - 32) bytes) bytes whole (omega (arith, length-box_head name (document_number_in bytes) (length bytes - 80) is)) in
     let tag : drop (length bytes - 32) bytes ≡ hmac_of (mac_key_of key) (head ++ sealed) = fine.tag ∙ ap (hmac_of (mac_key_of key)) text in
     let made : bytes ≡ tagged (mac_key_of key) (head ++ sealed) = whole ∙ sym (append_assoc head sealed (drop (length bytes - 32) bytes)) ∙ ap (λ (t : List ℕ). (head ++ sealed) ++ t) tag in
     let as_long : length bytes - 80 ≡ length document = sym size ∙ sym opened.as_long in
     record {
       number_fits = number_below bytes 4 fits;
       sealed = sealed;
-      is_sealed = IsSealed-back (enc_key_of key) (number_in bytes) sealed document opened;
-      whole = subst (λ (n : ℕ). bytes ≡ tagged (mac_key_of key) (box_head name (number_in bytes) n ++ sealed)) as_long made;
+      is_sealed = IsSealed-back (enc_key_of key) (document_number_in bytes) sealed document opened;
+      whole = subst (λ (n : ℕ). bytes ≡ tagged (mac_key_of key) (box_head name (document_number_in bytes) n ++ sealed)) as_long made;
     }
 
 -- ---- what has this box is opened
@@ -136,7 +136,7 @@ IsBox-found key name bytes document fits is none opened =
 -- what stands in the bytes of a box
 pub record Says (key : List Fp) (name : List ℕ) (number : ℕ) (document bytes : List ℕ) : Type 0 where
   pub none : box_fault key name bytes ≡ None
-  pub number_is : number_in bytes ≡ number
+  pub number_is : document_number_in bytes ≡ number
   pub is_sealed : IsSealed (enc_key_of key) number document (slice_range bytes 48 (length bytes - 32))
 
 said : (key : List Fp) (name : List ℕ) (number : ℕ) (document sealed bytes : List ℕ) → IsTrue (is_key_name name) → number < 2 ^ 32 → length document < 2 ^ 64 → IsSealed (enc_key_of key) number document sealed → bytes ≡ tagged (mac_key_of key) (box_head name number (length document) ++ sealed) → length bytes ≡ length document + 80 → Says key name number document bytes
@@ -152,7 +152,7 @@ said key name number document sealed bytes is number_fits size_fits is_sealed e 
     let behind : drop 48 bytes ≡ sealed ++ tag = ap (drop 48) apart ∙ drop_at head (sealed ++ tag) 48 long in
     let width : length bytes - 32 - 48 ≡ length sealed = omega (arith, all, is_sealed.as_long) in
     let sealed_is : slice_range bytes 48 (length bytes - 32) ≡ sealed = ap (λ (k : ℕ). take k (drop 48 bytes)) width ∙ ap (take (length sealed)) behind ∙ take_at sealed tag (length sealed) refl in
-    let number_is : number_in bytes ≡ number = ap number_in apart ∙ from_be_bytes-to_be_bytes_4 number number_fits in
+    let number_is : document_number_in bytes ≡ number = ap document_number_in apart ∙ from_be_bytes-to_be_bytes_4 number number_fits in
     let size_is : size_in bytes ≡ length document = ap size_in apart ∙ from_be_bytes-to_be_bytes_8 (length document) size_fits in
     let named : slice_range bytes 16 48 ≡ padded name = ap (λ (t : List ℕ). slice_range t 16 48) apart ∙ take_at (padded name) (sealed ++ tag) 32 wide in
     record {
@@ -199,13 +199,13 @@ module _ {Z : Type 0} where
   sealed_is_box key name number document old new (Err e) is fits _ front behind made = tt
 
   -- what is opened has this box
-  pub found_opened : (key : List Fp) (name bytes : List ℕ) (result : Result (ℕ × Vec ℕ Z) BoxFault) → IsBytes bytes → IsTrue (is_key_name name) → box_fault key name bytes ≡ None → IfOk result (λ opened. opened.0 ≡ number_in bytes) → IfOk result (λ opened. IsSealed (enc_key_of key) (number_in bytes) (slice_range bytes 48 (length bytes - 32)) opened.1.items) → IfOk result (λ opened. IsBox key name opened.0 opened.1.items bytes)
+  pub found_opened : (key : List Fp) (name bytes : List ℕ) (result : Result (ℕ × Vec ℕ Z) BoxFault) → IsBytes bytes → IsTrue (is_key_name name) → box_fault key name bytes ≡ None → IfOk result (λ opened. opened.0 ≡ document_number_in bytes) → IfOk result (λ opened. IsSealed (enc_key_of key) (document_number_in bytes) (slice_range bytes 48 (length bytes - 32)) opened.1.items) → IfOk result (λ opened. IsBox key name opened.0 opened.1.items bytes)
   found_opened key name bytes (Ok opened) fits is none number document =
       subst (λ (n : ℕ). IsBox key name n opened.1.items bytes) (sym number) (IsBox-found key name bytes opened.1.items fits is none document)
   found_opened key name bytes (Err fault) fits is none number document = tt
 
   -- what has this box is opened
-  pub only_opened : (key : List Fp) (name bytes : List ℕ) (result : Result (ℕ × Vec ℕ Z) BoxFault) → IsTrue (is_key_name name) → length bytes < 2 ^ 64 → IfOk result (λ opened. opened.0 ≡ number_in bytes) → IfOk result (λ opened. IsSealed (enc_key_of key) (number_in bytes) (slice_range bytes 48 (length bytes - 32)) opened.1.items) → IfErr result (λ fault. fault ≡ OutOfMemory) → (number : ℕ) (document : List ℕ) → IsBox key name number document bytes → Opens result number document
+  pub only_opened : (key : List Fp) (name bytes : List ℕ) (result : Result (ℕ × Vec ℕ Z) BoxFault) → IsTrue (is_key_name name) → length bytes < 2 ^ 64 → IfOk result (λ opened. opened.0 ≡ document_number_in bytes) → IfOk result (λ opened. IsSealed (enc_key_of key) (document_number_in bytes) (slice_range bytes 48 (length bytes - 32)) opened.1.items) → IfErr result (λ fault. fault ≡ OutOfMemory) → (number : ℕ) (document : List ℕ) → IsBox key name number document bytes → Opens result number document
   only_opened key name bytes (Ok opened) is short number_is document_is memory number document box =
       let says = Says-from key name number document bytes is short box in
       let sealed : List ℕ = slice_range bytes 48 (length bytes - 32) in

@@ -12,8 +12,8 @@ use Rattle.docvault.specs.Hmac.{hmac_of}
 use Rattle.docvault.specs.Box.{box_magic}
 
 -- the document's number, in bytes 4 to 7
-abbrev pub number_in : List ℕ → ℕ
-number_in bytes = from_be_bytes w32 (slice_range bytes 4 8)
+abbrev pub document_number_in : List ℕ → ℕ
+document_number_in bytes = from_be_bytes w32 (slice_range bytes 4 8)
 
 -- the document's length, in bytes 8 to 15
 abbrev pub size_in : List ℕ → ℕ

@@ -3,13 +3,14 @@ ghost use Rattle.std.specs.Prelude.{◌≡◌, ◌≤◌, ◌^◌, ◌+◌, ◌+
 ghost use Rattle.sharefile.specs.Names.{is_key_name};
 ghost use Rattle.docvault.specs.Keys.{enc_key_of, mac_key_of};
 ghost use Rattle.docvault.specs.Box.{IsBox, IsSealed, box_head, tagged};
-ghost use Rattle.docvault.specs.Opening.{box_fault, number_in, size_in, IsFault, Opens};
+ghost use Rattle.docvault.specs.Opening.{box_fault, document_number_in, size_in, IsFault, Opens};
 
 use crate::cipher::{apply_keystream, apply_keystream_from};
 use crate::fault::BoxFault;
 use crate::hmac::hmac;
 use crate::keys::{enc_key, mac_key};
-use field61::{Fe, OutOfMemory};
+use field61::Fe;
+use lists::OutOfMemory;
 use sharefile::KeyName;
 use std::alloc::Global;
 
@@ -176,7 +177,7 @@ fn size_in(bytes: &[u8]) -> u64
 /// The document's number, as the box says it.
 fn number_in(bytes: &[u8]) -> u32
     requires { 8 ≤ length bytes.now }
-    ensures { result ≡ number_in bytes.now }
+    ensures { result ≡ document_number_in bytes.now }
 {
     let mut number = [0; 4];
     number.copy_from_slice(&bytes[4..8]);
@@ -194,8 +195,8 @@ fn unmasked(key: &[Fe; 5], number: u32, mut sealed: Vec<u8>) -> Vec<u8>
 /// The number and the document of bytes that have no fault, in the bytes' own memory.
 fn opened_in_place(key: &[Fe; 5], mut bytes: Vec<u8>) -> (u32, Vec<u8>)
     requires { 80 ≤ length bytes.items }
-    ensures number { result.0 ≡ number_in bytes.items }
-    ensures document { IsSealed (enc_key_of key.now) (number_in bytes.items)
+    ensures number { result.0 ≡ document_number_in bytes.items }
+    ensures document { IsSealed (enc_key_of key.now) (document_number_in bytes.items)
         (slice_range bytes.items 48 (length bytes.items - 32)) result.1.items }
 {
     let number = number_in(&bytes);
@@ -237,8 +238,8 @@ pub fn unseal_in_place(
 /// box.
 fn opened(alloc: Global, key: &[Fe; 5], bytes: &[u8]) -> Result<(u32, Vec<u8>), BoxFault>
     requires { 80 ≤ length bytes.now }
-    ensures number { IfOk result (λ opened. opened.0 ≡ number_in bytes.now) }
-    ensures document { IfOk result (λ opened. IsSealed (enc_key_of key.now) (number_in bytes.now)
+    ensures number { IfOk result (λ opened. opened.0 ≡ document_number_in bytes.now) }
+    ensures document { IfOk result (λ opened. IsSealed (enc_key_of key.now) (document_number_in bytes.now)
         (slice_range bytes.now 48 (length bytes.now - 32)) opened.1.items) }
     ensures memory { IfErr result (λ fault. fault ≡ BoxFault.OutOfMemory) }
 {

@@ -3,7 +3,7 @@ ghost use Rattle.std.specs.Prelude.{◌≡◌, ◌≤◌, ◌++◌, Ok, length};
 ghost use Rattle.sha2.specs.Sha256.{sha256};
 ghost use Rattle.docvault.specs.Hmac.{hmac_of, key_block, zero_filled, xor_each};
 
-use field61::OutOfMemory;
+use lists::OutOfMemory;
 use sha2::{Digest, Sha256};
 use std::alloc::Global;
 

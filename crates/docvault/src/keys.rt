@@ -3,7 +3,8 @@ ghost use Rattle.std.specs.Prelude.{◌≡◌, ◌∷◌, Ok};
 ghost use Rattle.sha2.specs.Sha256.{sha256};
 ghost use Rattle.docvault.specs.Keys.{key_bytes, enc_key_of, mac_key_of, fingerprint_of};
 
-use field61::{Fe, OutOfMemory};
+use field61::Fe;
+use lists::OutOfMemory;
 use sha2::{Digest, Sha256};
 use std::alloc::Global;
 

@@ -1,17 +1,20 @@
 //! A member's share file.
-ghost use Rattle.std.specs.Prelude.{◌≡◌, ◌≤◌, ◌+◌, ◌++◌, ◌<◌, length, IfOk, OnOk, Ok};
+ghost use Rattle.std.specs.Prelude.{◌≡◌, ◌≤◌, ◌+◌, ◌-◌, ◌++◌, ◌<◌, length, slice_index, IfOk, IfSome, OnOk, Ok};
 ghost use Rattle.std.specs.List.{flat_map};
-ghost use Rattle.sharefile.specs.Files.{Share, IsShare, lane_bytes, share_bytes, is_library_size, is_index};
-ghost use Rattle.sharefile.specs.Reading.{Gives, lane_at, three_lanes_at, lanes_at, share_fields_at, share_at};
+ghost use Rattle.sharefile.specs.Files.{Share, IsShare, lane_bytes, committee_bytes, share_bytes};
+ghost use Rattle.sharefile.specs.Reading.{IsRead, lane_at, three_lanes_at, lanes_at, committee_at, share_fields_at, share_at, whole};
 
 use crate::fault::FileFault;
-use crate::fields::{VERSION, head_of, is_bound, name_in, number_in, put_u32, sign};
+use crate::fields::{digest_in, head_of, name_in, number_in, put_u32, sign, version};
 use crate::name::KeyName;
 use byteorder::{BigEndian, ByteOrder};
-use field61::{Fe, OutOfMemory};
+use field61::Fe;
+use lists::OutOfMemory;
+use sizes::{is_bound, is_index, is_library_size};
 use std::alloc::{AllocError, Global};
 use std::marker::Model;
 
+/// How many bytes a share file of version 1 has.
 const SHARE_SIZE: usize = 116;
 
 /// A member's share of a key in a period, in its five lanes.
@@ -32,6 +35,8 @@ pub struct ShareFile {
     pub period: u32,
     /// The member's share in each lane.
     pub lanes: [Fe; 5],
+    /// The digest of the committee; `None` in a file of version 1.
+    pub committee: Option<[u8; 32]>,
 }
 
 impl Model for ShareFile {
@@ -42,30 +47,18 @@ impl Model for ShareFile {
 
     ghost coded = { share_code };
 
-    ghost view = { λ f. record { name = f.name; n = f.n; t = f.t; index = f.index; period = f.period; lanes = f.lanes } };
+    ghost view = { λ f. record { name = f.name; n = f.n; t = f.t; index = f.index; period = f.period; lanes = f.lanes; committee = f.committee } };
 
-    ghost invariant = { λ f. IsShare (record { name = f.name; n = f.n; t = f.t; index = f.index; period = f.period; lanes = f.lanes }) };
+    ghost invariant = { λ f. IsShare (record { name = f.name; n = f.n; t = f.t; index = f.index; period = f.period; lanes = f.lanes; committee = f.committee }) };
 
-    ghost inverse = { λ f. record { name = f.name; n = f.n; t = f.t; index = f.index; period = f.period; lanes = f.lanes } };
-}
-
-fn is_library_size(n: u8) -> bool
-    ensures { result ≡ is_library_size n }
-{
-    4 <= n && n <= 15
-}
-
-fn is_index(n: u8, index: u8) -> bool
-    ensures { result ≡ is_index n index }
-{
-    1 <= index && index <= n
+    ghost inverse = { λ f. record { name = f.name; n = f.n; t = f.t; index = f.index; period = f.period; lanes = f.lanes; committee = f.committee } };
 }
 
 /// The lane in the eight bytes from a place on.
 #[tactic(auto, using(crate::proofs::Numbers::big_number_8, crate::proofs::Numbers::fe_is))]
 fn lane_in(head: &[u8], place: u32) -> Result<Fe, FileFault>
     requires { place + 8 ≤ length head.now }
-    ensures { Gives (λ x. x) result (lane_at place head.now) }
+    ensures { IsRead (λ x. x) result (lane_at place head.now) }
 {
     let start = place as usize;
     match Fe::from_u64(BigEndian::read_u64(&head[start..start + 8])) {
@@ -78,7 +71,7 @@ fn lane_in(head: &[u8], place: u32) -> Result<Fe, FileFault>
 fn three_lanes_in(head: &[u8], place: u32) -> Result<[Fe; 3], FileFault>
     requires low { place < 100 }
     requires room { place + 24 ≤ length head.now }
-    ensures { Gives (λ lanes. lanes) result (three_lanes_at place head.now) }
+    ensures { IsRead (λ lanes. lanes) result (three_lanes_at place head.now) }
 {
     let a = lane_in(head, place)?;
     let b = lane_in(head, place + 8)?;
@@ -88,8 +81,8 @@ fn three_lanes_in(head: &[u8], place: u32) -> Result<[Fe; 3], FileFault>
 
 #[tactic(auto, unfolding(crate::specs::Reading::lanes_at))]
 fn lanes_in(head: &[u8]) -> Result<[Fe; 5], FileFault>
-    requires { length head.now ≡ 84 }
-    ensures read { Gives (λ lanes. lanes) result (lanes_at head.now) }
+    requires { 84 ≤ length head.now }
+    ensures read { IsRead (λ lanes. lanes) result (lanes_at head.now) }
     ensures lanes { IfOk result (λ lanes. length lanes ≡ 5) }
 {
     let [a, b, c] = three_lanes_in(head, 44)?;
@@ -98,20 +91,21 @@ fn lanes_in(head: &[u8]) -> Result<[Fe; 5], FileFault>
     Ok([a, b, c, d, e])
 }
 
+/// The fields that both versions have, without a committee's digest.
 #[tactic(auto, unfolding(crate::specs::Reading::share_fields_at))]
 fn share_fields(head: &[u8]) -> Result<ShareFile, FileFault>
-    requires { length head.now ≡ 84 }
-    ensures { Gives (λ f. f) result (share_fields_at head.now) }
+    requires { 84 ≤ length head.now }
+    ensures { IsRead (λ f. f) result (share_fields_at head.now) }
 {
-    let n = head[5];
+    let n = u32::from(head[5]);
     if !is_library_size(n) {
         return Err(FileFault::Field { place: 5 });
     }
-    let t = head[6];
+    let t = u32::from(head[6]);
     if !is_bound(n, t) {
         return Err(FileFault::Field { place: 6 });
     }
-    let index = head[7];
+    let index = u32::from(head[7]);
     if !is_index(n, index) {
         return Err(FileFault::Field { place: 7 });
     }
@@ -123,20 +117,36 @@ fn share_fields(head: &[u8]) -> Result<ShareFile, FileFault>
     let lanes = lanes_in(head)?;
     Ok(ShareFile {
         name,
-        n: n as u32,
-        t: t as u32,
-        index: index as u32,
+        n,
+        t,
+        index,
         period,
         lanes,
+        committee: None,
     })
+}
+
+/// The digest of the committee behind the fields that both versions have; none in version 1.
+fn committee_of(head: &[u8]) -> Option<[u8; 32]>
+    requires { length head.now ≡ whole 116 (slice_index head.now 4) - 32 }
+    ensures digest { result ≡ committee_at head.now }
+    ensures whole { IfSome result (λ digest. length digest ≡ 32) }
+{
+    if head[4] == 1 {
+        None
+    } else {
+        Some(digest_in(head, 84))
+    }
 }
 
 #[tactic(auto, unfolding(crate::specs::Reading::share_at))]
 fn share_of(bytes: &[u8]) -> Result<ShareFile, FileFault>
-    ensures { Gives (λ f. f) result (share_at bytes.now) }
+    ensures { IsRead (λ f. f) result (share_at bytes.now) }
 {
     let head = head_of(b"DKSH", SHARE_SIZE, bytes)?;
-    share_fields(head)
+    let file = share_fields(head)?;
+    let committee = committee_of(head);
+    Ok(ShareFile { committee, ..file })
 }
 
 /// The share file that has exactly these bytes.
@@ -148,9 +158,9 @@ pub fn read_share(bytes: &[u8]) -> Result<ShareFile, FileFault>
     // What is read has these bytes.
     ensures found { IfOk result (λ f. IsShare f × (bytes.now ≡ share_bytes f)) }
     // What has these bytes is read.
-    ensures only { (f : Share) → IsShare f → bytes.now ≡ share_bytes f → Gives (λ f. f) result (Ok f) }
+    ensures only { (f : Share) → IsShare f → bytes.now ≡ share_bytes f → IsRead (λ f. f) result (Ok f) }
     // A fault is the first that holds.
-    ensures exact { Gives (λ f. f) result (share_at bytes.now) }
+    ensures exact { IsRead (λ f. f) result (share_at bytes.now) }
 {
     share_of(bytes)
 }
@@ -175,7 +185,30 @@ fn put_lanes(out: &mut Vec<u8>, lanes: &[Fe; 5]) -> Result<(), AllocError>
     Ok(())
 }
 
-/// The 116 bytes of a share file.
+/// Appends the digest of the committee, where there is one.
+fn put_committee(out: &mut Vec<u8>, committee: &Option<[u8; 32]>) -> Result<(), AllocError>
+    ensures { OnOk result (out.new.items ≡ out.old.items ++ committee_bytes committee.now) }
+{
+    if let Some(digest) = committee {
+        out.extend_from_slice(digest)?;
+    }
+    Ok(())
+}
+
+/// Appends what is behind the name.
+fn put_values(
+    out: &mut Vec<u8>,
+    lanes: &[Fe; 5],
+    committee: &Option<[u8; 32]>,
+) -> Result<(), AllocError>
+    ensures { OnOk result (out.new.items ≡ out.old.items ++ (flat_map lane_bytes lanes.now ++ committee_bytes committee.now)) }
+{
+    put_lanes(out, lanes)?;
+    put_committee(out, committee)?;
+    Ok(())
+}
+
+/// The bytes of a share file: 116 without the digest of the committee, 148 with it.
 ///
 /// # Errors
 /// `OutOfMemory` alone.
@@ -184,10 +217,11 @@ pub fn write_share(alloc: Global, file: &ShareFile) -> Result<Vec<u8>, OutOfMemo
 {
     let mut out = Vec::new(alloc);
     out.extend_from_slice(b"DKSH")?;
-    out.extend_from_slice(&[VERSION, file.n as u8, file.t as u8, file.index as u8])?;
+    let version = version(file.committee.is_some());
+    out.extend_from_slice(&[version, file.n as u8, file.t as u8, file.index as u8])?;
     put_u32(&mut out, file.period)?;
     out.extend_from_slice(&file.name.bytes())?;
-    put_lanes(&mut out, &file.lanes)?;
+    put_values(&mut out, &file.lanes, &file.committee)?;
     sign(&mut out)?;
     Ok(out)
 }

@@ -1,57 +1,144 @@
-use crate::{FileFault, KeyName, NowFile, ShareFile, read_now, read_share, write_now, write_share};
+use crate::fields::sign;
+use crate::{
+    FileFault, KeyName, ShareFile, committee_digest, read_now, read_share, write_now, write_share,
+};
 use field61::{Fe, P};
+use std::alloc::{AllocError, Global};
 use std::test::Fail;
 
-/// The SHA-256 of the first 84 bytes of the share file of `k1` for member 1 of 4, with the lanes 10,
-/// 0, 0, 0, 0 in period 1.
-const SHARE_DIGEST: [u8; 32] = [
-    0xc8, 0x46, 0x3a, 0x5b, 0x9c, 0x46, 0xee, 0xe1, 0x22, 0xbe, 0xd1, 0x8c, 0x4c, 0xd8, 0xf3, 0xad,
-    0x35, 0x37, 0xf9, 0x0f, 0xf2, 0xc4, 0xb8, 0x94, 0x6e, 0x14, 0x4b, 0x49, 0xf1, 0xe6, 0x62, 0xa6,
+/// The share file of member 1 of the four of `k1` in period 1, in version 1, with the lanes 10, 0, 0,
+/// 0, 0. These bytes and those below are from a program that has nothing of this one.
+const SHARE: [u8; 116] = [
+    0x44, 0x4b, 0x53, 0x48, 0x01, 0x04, 0x01, 0x01, 0x00, 0x00, 0x00, 0x01, 0x6b, 0x31, 0x00, 0x00,
+    0x00, 0x00, 0x00, 0x00, 0x00, 0x00, 0x00, 0x00, 0x00, 0x00, 0x00, 0x00, 0x00, 0x00, 0x00, 0x00,
+    0x00, 0x00, 0x00, 0x00, 0x00, 0x00, 0x00, 0x00, 0x00, 0x00, 0x00, 0x00, 0x00, 0x00, 0x00, 0x00,
+    0x00, 0x00, 0x00, 0x0a, 0x00, 0x00, 0x00, 0x00, 0x00, 0x00, 0x00, 0x00, 0x00, 0x00, 0x00, 0x00,
+    0x00, 0x00, 0x00, 0x00, 0x00, 0x00, 0x00, 0x00, 0x00, 0x00, 0x00, 0x00, 0x00, 0x00, 0x00, 0x00,
+    0x00, 0x00, 0x00, 0x00, 0xc8, 0x46, 0x3a, 0x5b, 0x9c, 0x46, 0xee, 0xe1, 0x22, 0xbe, 0xd1, 0x8c,
+    0x4c, 0xd8, 0xf3, 0xad, 0x35, 0x37, 0xf9, 0x0f, 0xf2, 0xc4, 0xb8, 0x94, 0x6e, 0x14, 0x4b, 0x49,
+    0xf1, 0xe6, 0x62, 0xa6,
 ];
 
-/// The same where the first lane is the order of the field, which is no element.
+/// The SHA-256 of its first 84 bytes where the first lane is the order of the field, which is no element.
 const LARGE_LANE_DIGEST: [u8; 32] = [
     0x95, 0x9c, 0x1c, 0xa2, 0xb6, 0x75, 0xd5, 0xfe, 0x30, 0x1b, 0x71, 0xef, 0xb7, 0x3a, 0x7f, 0xb9,
     0xe8, 0xa4, 0x53, 0x95, 0x32, 0x3d, 0x29, 0x4f, 0xb6, 0x12, 0x99, 0x19, 0x32, 0x84, 0xb8, 0xba,
 ];
 
-/// The SHA-256 of the first 48 bytes of the now file of `k1` with 4 members in period 1.
-const NOW_DIGEST: [u8; 32] = [
+/// The now file of `k1` with four members in period 1, in version 1.
+const NOW: [u8; 80] = [
+    0x44, 0x4b, 0x4e, 0x57, 0x01, 0x04, 0x01, 0x00, 0x00, 0x00, 0x00, 0x01, 0x00, 0x00, 0x00, 0x00,
+    0x6b, 0x31, 0x00, 0x00, 0x00, 0x00, 0x00, 0x00, 0x00, 0x00, 0x00, 0x00, 0x00, 0x00, 0x00, 0x00,
+    0x00, 0x00, 0x00, 0x00, 0x00, 0x00, 0x00, 0x00, 0x00, 0x00, 0x00, 0x00, 0x00, 0x00, 0x00, 0x00,
     0x21, 0x5b, 0xdd, 0x93, 0x8b, 0x50, 0x03, 0xec, 0xdf, 0xef, 0xda, 0xb3, 0x91, 0x04, 0x8a, 0x1f,
     0xe9, 0x8f, 0x77, 0xaa, 0xb6, 0x63, 0xa5, 0xd6, 0x71, 0x48, 0x8a, 0x4a, 0x36, 0xe9, 0xf6, 0x2d,
 ];
 
-/// A share file that an independent program wrote.
-const FOREIGN_SHARE: [u8; 116] = [
-    0x44, 0x4b, 0x53, 0x48, 0x01, 0x0d, 0x04, 0x0b, 0x00, 0x00, 0x00, 0x07, 0x61, 0x72, 0x63, 0x68,
+/// The digest of that committee, where all four hold a share file and none was before.
+const COMMITTEE: [u8; 32] = [
+    0x8e, 0x85, 0x5b, 0x00, 0x2d, 0x53, 0x97, 0xb3, 0x1a, 0x64, 0x73, 0x0b, 0xc7, 0x07, 0x60, 0x68,
+    0x55, 0xf6, 0x68, 0xeb, 0xdc, 0x00, 0x6b, 0xa0, 0x22, 0x73, 0x6f, 0x38, 0xcf, 0xa8, 0x3b, 0x00,
+];
+
+/// The share file in version 2, with this committee.
+const TIED_SHARE: [u8; 148] = [
+    0x44, 0x4b, 0x53, 0x48, 0x02, 0x04, 0x01, 0x01, 0x00, 0x00, 0x00, 0x01, 0x6b, 0x31, 0x00, 0x00,
+    0x00, 0x00, 0x00, 0x00, 0x00, 0x00, 0x00, 0x00, 0x00, 0x00, 0x00, 0x00, 0x00, 0x00, 0x00, 0x00,
+    0x00, 0x00, 0x00, 0x00, 0x00, 0x00, 0x00, 0x00, 0x00, 0x00, 0x00, 0x00, 0x00, 0x00, 0x00, 0x00,
+    0x00, 0x00, 0x00, 0x0a, 0x00, 0x00, 0x00, 0x00, 0x00, 0x00, 0x00, 0x00, 0x00, 0x00, 0x00, 0x00,
+    0x00, 0x00, 0x00, 0x00, 0x00, 0x00, 0x00, 0x00, 0x00, 0x00, 0x00, 0x00, 0x00, 0x00, 0x00, 0x00,
+    0x00, 0x00, 0x00, 0x00, 0x8e, 0x85, 0x5b, 0x00, 0x2d, 0x53, 0x97, 0xb3, 0x1a, 0x64, 0x73, 0x0b,
+    0xc7, 0x07, 0x60, 0x68, 0x55, 0xf6, 0x68, 0xeb, 0xdc, 0x00, 0x6b, 0xa0, 0x22, 0x73, 0x6f, 0x38,
+    0xcf, 0xa8, 0x3b, 0x00, 0x76, 0xe3, 0xac, 0xb7, 0x51, 0x72, 0x1c, 0x0c, 0xea, 0x6a, 0x20, 0x89,
+    0x5d, 0xeb, 0x34, 0xda, 0xfb, 0x7f, 0x62, 0xac, 0xf5, 0x63, 0xa1, 0x8f, 0x92, 0x37, 0x3f, 0x43,
+    0x3f, 0xfc, 0xd1, 0x66,
+];
+
+/// The now file in version 2, with this committee.
+const TIED_NOW: [u8; 148] = [
+    0x44, 0x4b, 0x4e, 0x57, 0x02, 0x04, 0x01, 0x00, 0x00, 0x00, 0x00, 0x01, 0x00, 0x00, 0x00, 0x00,
+    0x6b, 0x31, 0x00, 0x00, 0x00, 0x00, 0x00, 0x00, 0x00, 0x00, 0x00, 0x00, 0x00, 0x00, 0x00, 0x00,
+    0x00, 0x00, 0x00, 0x00, 0x00, 0x00, 0x00, 0x00, 0x00, 0x00, 0x00, 0x00, 0x00, 0x00, 0x00, 0x00,
+    0x00, 0x00, 0x00, 0x0f, 0x8e, 0x85, 0x5b, 0x00, 0x2d, 0x53, 0x97, 0xb3, 0x1a, 0x64, 0x73, 0x0b,
+    0xc7, 0x07, 0x60, 0x68, 0x55, 0xf6, 0x68, 0xeb, 0xdc, 0x00, 0x6b, 0xa0, 0x22, 0x73, 0x6f, 0x38,
+    0xcf, 0xa8, 0x3b, 0x00, 0x00, 0x00, 0x00, 0x00, 0x00, 0x00, 0x00, 0x00, 0x00, 0x00, 0x00, 0x00,
+    0x00, 0x00, 0x00, 0x00, 0x00, 0x00, 0x00, 0x00, 0x00, 0x00, 0x00, 0x00, 0x00, 0x00, 0x00, 0x00,
+    0x00, 0x00, 0x00, 0x00, 0x8e, 0xd6, 0x14, 0xca, 0x6d, 0x9a, 0x51, 0x23, 0xf7, 0x0e, 0xe1, 0x1f,
+    0x52, 0x50, 0xe8, 0x2b, 0x17, 0x49, 0xe6, 0x12, 0x5a, 0x4b, 0xdb, 0x70, 0x5a, 0x8e, 0x2f, 0x7e,
+    0xbb, 0x7c, 0x33, 0x5f,
+];
+
+/// A share file of a later period, in version 2.
+const LATER_SHARE: [u8; 148] = [
+    0x44, 0x4b, 0x53, 0x48, 0x02, 0x0d, 0x04, 0x0b, 0x00, 0x00, 0x00, 0x07, 0x61, 0x72, 0x63, 0x68,
     0x69, 0x76, 0x65, 0x5f, 0x32, 0x30, 0x33, 0x31, 0x00, 0x00, 0x00, 0x00, 0x00, 0x00, 0x00, 0x00,
     0x00, 0x00, 0x00, 0x00, 0x00, 0x00, 0x00, 0x00, 0x00, 0x00, 0x00, 0x00, 0x1d, 0xc7, 0x77, 0xf1,
-    0x86, 0x10, 0x13, 0x07, 0x11, 0x8b, 0xb2, 0xe1, 0xe8, 0x6e, 0x36, 0x23, 0x09, 0xda, 0x41, 0xbc,
-    0xac, 0x1d, 0xb0, 0xcc, 0x1e, 0x75, 0x53, 0xef, 0x67, 0xfb, 0x9a, 0xdb, 0x12, 0x8a, 0x9b, 0xb0,
-    0x5b, 0xb8, 0x68, 0xcb, 0xe1, 0x10, 0xb1, 0xa1, 0xac, 0x8a, 0x0d, 0xdb, 0x0a, 0x35, 0xf0, 0x03,
-    0xe8, 0x5e, 0x64, 0x36, 0xc4, 0x00, 0xaa, 0xea, 0xda, 0x70, 0xb2, 0x46, 0x85, 0xe7, 0x40, 0x06,
-    0x4a, 0x08, 0x73, 0xe9,
+    0x86, 0x10, 0x13, 0x07, 0x11, 0x22, 0x10, 0xf4, 0x7d, 0xe9, 0x81, 0x15, 0x00, 0x00, 0x00, 0x00,
+    0x00, 0x00, 0x00, 0x07, 0x00, 0x00, 0x00, 0x00, 0x00, 0x00, 0x00, 0x00, 0x1f, 0xff, 0xff, 0xff,
+    0xff, 0xff, 0xff, 0xfe, 0x8c, 0x08, 0xee, 0xad, 0x8f, 0xcf, 0x1e, 0x5b, 0xf5, 0xbd, 0x3d, 0xcf,
+    0x7b, 0x21, 0x13, 0x3f, 0x7a, 0xa5, 0xaf, 0xa0, 0x10, 0x0c, 0x14, 0x24, 0x6a, 0xe9, 0x4e, 0x2a,
+    0x68, 0x6c, 0x1a, 0x4a, 0x5a, 0xa2, 0xa0, 0x30, 0xb4, 0x93, 0xaf, 0xf5, 0x32, 0x87, 0x2d, 0x5a,
+    0x1c, 0xb7, 0x2b, 0xae, 0xa2, 0x37, 0x9b, 0x96, 0x48, 0xdf, 0x11, 0xb9, 0x50, 0xb9, 0xcb, 0xb6,
+    0x14, 0x87, 0xc4, 0xe0,
 ];
 
-/// A now file that an independent program wrote.
-const FOREIGN_NOW: [u8; 80] = [
-    0x44, 0x4b, 0x4e, 0x57, 0x01, 0x0d, 0x04, 0x00, 0x00, 0x00, 0x00, 0x07, 0x00, 0x00, 0x00, 0x0c,
+/// The now file to it: three of thirteen hold no share file, and a committee was before.
+const LATER_NOW: [u8; 148] = [
+    0x44, 0x4b, 0x4e, 0x57, 0x02, 0x0d, 0x04, 0x00, 0x00, 0x00, 0x00, 0x07, 0x00, 0x00, 0x00, 0x0c,
     0x61, 0x72, 0x63, 0x68, 0x69, 0x76, 0x65, 0x5f, 0x32, 0x30, 0x33, 0x31, 0x00, 0x00, 0x00, 0x00,
     0x00, 0x00, 0x00, 0x00, 0x00, 0x00, 0x00, 0x00, 0x00, 0x00, 0x00, 0x00, 0x00, 0x00, 0x00, 0x00,
-    0x33, 0xe1, 0x67, 0xde, 0x4d, 0x5e, 0x8e, 0xd7, 0xde, 0x93, 0x96, 0xbb, 0x18, 0xad, 0x2e, 0x68,
-    0x3b, 0xb1, 0x34, 0xce, 0x6a, 0xfc, 0x08, 0xe4, 0x73, 0xeb, 0xad, 0x47, 0x93, 0xfc, 0x14, 0xfc,
+    0x00, 0x00, 0x1b, 0xd7, 0x8c, 0x08, 0xee, 0xad, 0x8f, 0xcf, 0x1e, 0x5b, 0xf5, 0xbd, 0x3d, 0xcf,
+    0x7b, 0x21, 0x13, 0x3f, 0x7a, 0xa5, 0xaf, 0xa0, 0x10, 0x0c, 0x14, 0x24, 0x6a, 0xe9, 0x4e, 0x2a,
+    0x68, 0x6c, 0x1a, 0x4a, 0x17, 0x10, 0x19, 0x93, 0xd7, 0x54, 0xb2, 0x72, 0x9e, 0xcb, 0x15, 0x57,
+    0xbd, 0xb9, 0xa6, 0x66, 0x2e, 0x6a, 0x41, 0xbb, 0x5a, 0x1a, 0x15, 0xd0, 0xcd, 0x49, 0x98, 0xea,
+    0x8d, 0x5a, 0xa8, 0x79, 0xfd, 0xc0, 0xe9, 0xa5, 0x61, 0xef, 0x92, 0x6a, 0xb5, 0xf7, 0x8d, 0x79,
+    0x5e, 0x09, 0x49, 0xb2, 0xab, 0x80, 0x1b, 0xe8, 0x24, 0xd2, 0x8d, 0x79, 0xa9, 0x3a, 0x19, 0x07,
+    0x6a, 0x26, 0x51, 0x74,
 ];
 
-/// A share file of `k1` with this first lane, and zeros in the others.
-fn share_with(lane: u64, digest: [u8; 32]) -> [u8; 116] {
-    let mut bytes = [0; 116];
-    bytes[..4].copy_from_slice(b"DKSH");
-    bytes[4..8].copy_from_slice(&[1, 4, 1, 1]);
-    bytes[11] = 1;
-    bytes[12..14].copy_from_slice(b"k1");
-    bytes[44..52].copy_from_slice(&lane.to_be_bytes());
-    bytes[84..].copy_from_slice(&digest);
-    bytes
+/// A kind of file.
+#[derive(Clone, Copy)]
+enum Kind {
+    Share,
+    Now,
+}
+
+impl Kind {
+    /// What is wrong with these bytes; `None` where they are a file of this kind.
+    fn fault(self, bytes: &[u8]) -> Option<FileFault> {
+        match self {
+            Kind::Share => read_share(bytes).err(),
+            Kind::Now => read_now(bytes).err(),
+        }
+    }
+
+    /// The first byte of the field that a changed top bit at `place` makes wrong, where the digest is
+    /// right again; `None` where another file is read.
+    fn wrong_field(self, place: usize) -> Option<u32> {
+        match self {
+            Kind::Share => wrong_share_field(place),
+            Kind::Now => wrong_now_field(place),
+        }
+    }
+}
+
+fn wrong_share_field(place: usize) -> Option<u32> {
+    match place {
+        5..=7 | 44 | 52 | 60 | 68 | 76 => Some(place as u32),
+        12..=43 => Some(12),
+        _ => None,
+    }
+}
+
+fn wrong_now_field(place: usize) -> Option<u32> {
+    match place {
+        5..=7 => Some(place as u32),
+        16..=47 => Some(16),
+        48..=51 => Some(48),
+        // The committee's digest is another, where the period or the digests are.
+        8..=11 | 52..=115 => Some(52),
+        _ => None,
+    }
 }
 
 #[test]
@@ -82,104 +169,229 @@ fn names_are_short_words_of_lower_case_digits_and_underscore(rt: HostRuntime) ->
     Ok(())
 }
 
-#[test]
-fn a_share_file_has_one_list_of_bytes(rt: HostRuntime) -> Result<(), Fail> {
-    let bytes = share_with(10, SHARE_DIGEST);
-    let lane = Fe::from_u64(10).ok_or("an element")?;
-    let file = ShareFile {
-        name: KeyName::from_text("k1").ok_or("a name")?,
+/// The share file that `SHARE` and `TIED_SHARE` spell.
+fn share_of(committee: Option<[u8; 32]>) -> Option<ShareFile> {
+    let name = KeyName::from_text("k1")?;
+    let lane = Fe::from_u64(10)?;
+    Some(ShareFile {
+        name,
         n: 4,
         t: 1,
         index: 1,
         period: 1,
         lanes: [lane, Fe::ZERO, Fe::ZERO, Fe::ZERO, Fe::ZERO],
-    };
-    let written = write_share(rt.alloc(), &file)?;
-    assert_eq!(rt; written.as_slice(), bytes.as_slice());
+        committee,
+    })
+}
 
-    let mut longer = bytes.to_vec(rt.alloc())?;
+#[test]
+fn a_share_file_has_one_list_of_bytes(rt: HostRuntime) -> Result<(), Fail> {
+    let first = share_of(None).ok_or("a share file")?;
+    let written = write_share(rt.alloc(), &first)?;
+    assert_eq!(rt; written.as_slice(), SHARE.as_slice());
+    let second = share_of(Some(COMMITTEE)).ok_or("a share file")?;
+    let written = write_share(rt.alloc(), &second)?;
+    assert_eq!(rt; written.as_slice(), TIED_SHARE.as_slice());
+    Ok(())
+}
+
+#[test]
+fn a_byte_more_and_a_large_lane_are_no_share_file(rt: HostRuntime) -> Result<(), Fail> {
+    let mut longer = SHARE.to_vec(rt.alloc())?;
     longer.push(0)?;
     let extra = Some(FileFault::Extra {
         have: 117,
         need: 116,
     });
     assert!(rt; read_share(&longer).err() == extra);
-
-    let large = share_with(P, LARGE_LANE_DIGEST);
+    let mut large = SHARE;
+    large[44..52].copy_from_slice(&P.to_be_bytes());
+    large[84..].copy_from_slice(&LARGE_LANE_DIGEST);
     assert!(rt; read_share(&large).err() == Some(FileFault::Field { place: 44 }));
     Ok(())
 }
 
 #[test]
-fn each_part_and_each_changed_byte_of_a_share_file_has_its_fault(rt: HostRuntime) {
-    let bytes = share_with(10, SHARE_DIGEST);
-    for k in 0..bytes.len() {
-        let need = if k < 5 { 5 } else { 116 };
-        let short = FileFault::Short {
-            have: k as u64,
-            need,
-        };
-        assert!(rt; read_share(&bytes[..k]).err() == Some(short), "{k} bytes");
-
-        let mut changed = bytes;
-        changed[k] ^= 0x80;
-        let number = read_share(&changed).err().map(|fault| fault.number());
-        let expected = match k {
-            0..=3 => 2,
-            4 => 3,
-            _ => 5,
-        };
-        assert!(rt; number == Some(expected), "byte {k}");
-    }
-    let mut changed = bytes;
-    changed[4] ^= 0x80;
-    assert!(rt; read_share(&changed).err() == Some(FileFault::Version { found: 129 }));
-    let mut changed = bytes;
-    changed[83] ^= 0x80;
-    let Some(FileFault::Digest { found, computed }) = read_share(&changed).err() else {
-        assert!(rt; false, "a digest");
-        return;
-    };
-    assert!(rt; found == SHARE_DIGEST && computed != SHARE_DIGEST);
-}
-
-#[test]
 fn a_now_file_has_one_list_of_bytes(rt: HostRuntime) -> Result<(), Fail> {
-    let file = NowFile {
-        name: KeyName::from_text("k1").ok_or("a name")?,
-        n: 4,
-        t: 1,
-        period: 1,
-        next_number: 0,
-    };
-    let written = write_now(rt.alloc(), &file)?;
-    assert_eq!(rt; written.len(), 80);
-    assert_eq!(rt; &written[..8], b"DKNW\x01\x04\x01\x00".as_slice());
-    assert_eq!(rt;
-        &written[8..18],
-        [0, 0, 0, 1, 0, 0, 0, 0, b'k', b'1'].as_slice()
-    );
-    assert!(rt; written[18..48].iter().all(|byte| *byte == 0));
-    assert_eq!(rt; &written[48..], NOW_DIGEST.as_slice());
-    let back = read_now(&written).ok().ok_or("a now file")?;
-    assert!(rt; back.name.as_str() == "k1" && back.n == 4 && back.t == 1);
-    assert!(rt; back.period == 1 && back.next_number == 0);
-    assert!(rt; read_now(&FOREIGN_SHARE).err() == Some(FileFault::Magic));
+    for bytes in [NOW.as_slice(), TIED_NOW.as_slice(), LATER_NOW.as_slice()] {
+        let file = read_now(bytes).ok().ok_or("a now file")?;
+        let written = write_now(rt.alloc(), &file)?;
+        assert_eq!(rt; written.as_slice(), bytes);
+    }
+    assert!(rt; read_now(&SHARE).err() == Some(FileFault::Magic));
     Ok(())
 }
 
 #[test]
-fn files_of_another_program_are_read(rt: HostRuntime) -> Result<(), Fail> {
-    let share = read_share(&FOREIGN_SHARE).ok().ok_or("a share file")?;
+fn a_now_file_says_where_the_key_stands(rt: HostRuntime) -> Result<(), Fail> {
+    let first = read_now(&NOW).ok().ok_or("a now file")?;
+    assert_eq!(rt; first.name.as_str(), "k1");
+    assert_eq!(rt;
+        (first.n, first.t, first.period, first.next_number),
+        (4, 1, 1, 0)
+    );
+    assert!(rt; first.link.is_none() && first.committee().is_none());
+    let computed = committee_digest(&first.name, 4, 1, 1, 15, &[0; 32]);
+    assert!(rt; computed == COMMITTEE);
+
+    let later = read_now(&LATER_NOW).ok().ok_or("a now file")?;
+    assert_eq!(rt; later.name.as_str(), "archive_2031");
+    assert_eq!(rt;
+        (later.n, later.t, later.period, later.next_number),
+        (13, 4, 7, 12)
+    );
+    let link = later.link.ok_or("a link")?;
+    assert_eq!(rt; link.holders, 0b1_1011_1101_0111);
+    assert!(rt; link.previous != [0; 32] && later.committee() == Some(link.committee));
+    Ok(())
+}
+
+#[test]
+fn a_share_file_says_whose_it_is(rt: HostRuntime) -> Result<(), Fail> {
+    let share = read_share(&LATER_SHARE).ok().ok_or("a share file")?;
+    let now = read_now(&LATER_NOW).ok().ok_or("a now file")?;
     assert_eq!(rt; share.name.as_str(), "archive_2031");
     assert_eq!(rt;
         (share.n, share.t, share.index, share.period),
         (13, 4, 11, 7)
     );
     assert_eq!(rt; share.lanes[0].get(), 2145815626685354759);
-    assert_eq!(rt; share.lanes[4].get(), 1336051421224134859);
-    let now = read_now(&FOREIGN_NOW).ok().ok_or("a now file")?;
-    assert_eq!(rt; now.name.as_str(), "archive_2031");
-    assert_eq!(rt; (now.n, now.t, now.period, now.next_number), (13, 4, 7, 12));
+    assert_eq!(rt; share.lanes[4].get(), P - 1);
+    assert!(rt; share.committee == now.committee());
     Ok(())
+}
+
+/// The first `k` whose first `k` bytes aren't too short.
+fn first_part_that_is_read(kind: Kind, bytes: &[u8]) -> Option<usize> {
+    for k in 0..bytes.len() {
+        let need = if k < 5 { 5 } else { bytes.len() as u64 };
+        let have = k as u64;
+        if kind.fault(&bytes[..k]) != Some(FileFault::Short { have, need }) {
+            return Some(k);
+        }
+    }
+    None
+}
+
+/// The first place where a changed top bit isn't told as the fault of that place.
+fn first_change_untold<const N: usize>(kind: Kind, bytes: [u8; N]) -> Option<usize> {
+    for place in 0..N {
+        let mut changed = bytes;
+        changed[place] ^= 0x80;
+        let expected = match place {
+            0..=3 => 2,
+            4 => 3,
+            _ => 5,
+        };
+        if kind.fault(&changed).map(|fault| fault.number()) != Some(expected) {
+            return Some(place);
+        }
+    }
+    None
+}
+
+#[test]
+fn each_part_and_each_changed_byte_has_its_fault(rt: HostRuntime) {
+    assert_eq!(rt; first_part_that_is_read(Kind::Share, &SHARE), None);
+    assert_eq!(rt; first_part_that_is_read(Kind::Share, &TIED_SHARE), None);
+    assert_eq!(rt; first_part_that_is_read(Kind::Now, &NOW), None);
+    assert_eq!(rt; first_part_that_is_read(Kind::Now, &TIED_NOW), None);
+    assert_eq!(rt; first_change_untold(Kind::Share, SHARE), None);
+    assert_eq!(rt; first_change_untold(Kind::Share, TIED_SHARE), None);
+    assert_eq!(rt; first_change_untold(Kind::Now, NOW), None);
+    assert_eq!(rt; first_change_untold(Kind::Now, TIED_NOW), None);
+}
+
+/// What is wrong with this file where the byte at `place` is another and its digest is right again.
+fn signed_fault(
+    alloc: Global,
+    kind: Kind,
+    head: &[u8],
+    place: usize,
+    byte: u8,
+) -> Result<Option<FileFault>, AllocError> {
+    let mut changed = head.to_vec(alloc)?;
+    if place < changed.len() {
+        changed[place] = byte;
+    }
+    sign(&mut changed)?;
+    Ok(kind.fault(&changed))
+}
+
+/// The first place behind the version where a changed top bit under a right digest is neither read as
+/// another file nor told as the field that it makes wrong.
+fn first_signed_change_untold(
+    alloc: Global,
+    kind: Kind,
+    head: &[u8],
+) -> Result<Option<usize>, AllocError> {
+    for (place, byte) in head.iter().enumerate().skip(5) {
+        let fault = signed_fault(alloc, kind, head, place, byte ^ 0x80)?;
+        let expected = kind
+            .wrong_field(place)
+            .map(|place| FileFault::Field { place });
+        if fault != expected {
+            return Ok(Some(place));
+        }
+    }
+    Ok(None)
+}
+
+#[test]
+fn a_right_digest_hides_no_field_out_of_its_range(rt: HostRuntime) -> Result<(), Fail> {
+    let share = first_signed_change_untold(rt.alloc(), Kind::Share, &TIED_SHARE[..116])?;
+    assert_eq!(rt; share, None);
+    let now = first_signed_change_untold(rt.alloc(), Kind::Now, &TIED_NOW[..116])?;
+    assert_eq!(rt; now, None);
+    Ok(())
+}
+
+#[test]
+fn holders_are_members_and_all_but_t_at_least(rt: HostRuntime) -> Result<(), Fail> {
+    let head = &TIED_NOW[..116];
+    for holders in [0, 1, 2, 3, 5, 6, 8, 9, 10, 12, 16, 23, 31, 128] {
+        let fault = signed_fault(rt.alloc(), Kind::Now, head, 51, holders)?;
+        assert!(rt; fault == Some(FileFault::Field { place: 48 }), "{holders}");
+    }
+    // Three of four are enough, and then the digest is another one.
+    for holders in [7, 11, 13, 14] {
+        let fault = signed_fault(rt.alloc(), Kind::Now, head, 51, holders)?;
+        assert!(rt; fault == Some(FileFault::Field { place: 52 }), "{holders}");
+    }
+    let fault = signed_fault(rt.alloc(), Kind::Now, head, 51, 15)?;
+    assert!(rt; fault.is_none());
+    Ok(())
+}
+
+#[test]
+fn a_version_tells_the_length(rt: HostRuntime) {
+    let mut first = SHARE;
+    first[4] = 2;
+    let short = FileFault::Short {
+        have: 116,
+        need: 148,
+    };
+    assert!(rt; Kind::Share.fault(&first) == Some(short));
+    first[4] = 3;
+    assert!(rt; Kind::Share.fault(&first) == Some(FileFault::Version { found: 3 }));
+    let mut second = TIED_NOW;
+    second[4] = 1;
+    let extra = FileFault::Extra {
+        have: 148,
+        need: 80,
+    };
+    assert!(rt; Kind::Now.fault(&second) == Some(extra));
+    second[4] = 0;
+    assert!(rt; Kind::Now.fault(&second) == Some(FileFault::Version { found: 0 }));
+}
+
+#[test]
+fn a_digest_that_is_wrong_is_told_with_the_right_one(rt: HostRuntime) {
+    let mut changed = SHARE;
+    changed[83] ^= 0x80;
+    let Some(FileFault::Digest { found, computed }) = read_share(&changed).err() else {
+        assert!(rt; false, "a digest");
+        return;
+    };
+    assert!(rt; found.as_slice() == &SHARE[84..] && computed != found);
 }
