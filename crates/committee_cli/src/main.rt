@@ -2,7 +2,9 @@
 #![tactic(auto)]
 
 use committee::{Status, run};
+use keyroom::{Command, read_words};
 use shelf::{DeviceEntropy, FolderShelf, OutSink};
+use std::io::ErrorKind;
 use std::process::ExitCode;
 use std::{env, io};
 
@@ -15,12 +17,35 @@ fn words(rt: &HostRuntime) -> io::Result<Vec<String>> {
     Ok(words)
 }
 
+/// The current folder, locked for what the command does there: those that only ask share it, and
+/// any other has it to itself.
+fn folder_for<'a>(
+    rt: &'a HostRuntime,
+    command: &Command<'a>,
+) -> io::Result<FolderShelf<'a, HostRuntime>> {
+    match command {
+        Command::Recover { .. } | Command::Check { .. } => FolderShelf::open_shared(rt),
+        Command::Seal { target, .. } | Command::Open { target, .. } => {
+            FolderShelf::open_exclusive(rt, Some(*target))
+        }
+        Command::Create { .. } => FolderShelf::open_exclusive(rt, None),
+    }
+}
+
 /// Runs the command over the real shelf, entropy and sink. Words that aren't UTF-8 are no command.
+/// The folder stays locked until this ends.
 fn status_of(rt: &HostRuntime) -> Status {
-    let Ok(words) = words(rt) else {
+    let words = match words(rt) {
+        Ok(words) => words,
+        Err(error) if error.kind() == ErrorKind::OutOfMemory => return Status::OutOfMemory,
+        Err(_) => return Status::Usage,
+    };
+    let Some(command) = read_words(&words) else {
         return Status::Usage;
     };
-    let mut shelf = FolderShelf::new(rt);
+    let Ok(mut shelf) = folder_for(rt, &command) else {
+        return Status::ShelfFault;
+    };
     let mut entropy = DeviceEntropy::new(rt);
     let mut out = OutSink::new(io::writer(rt));
     run(rt.alloc(), &words, &mut shelf, &mut entropy, &mut out)

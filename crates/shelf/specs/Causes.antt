@@ -1,5 +1,5 @@
 -- Why a call of the outside fails, and what it leaves.
-use Rattle.std.specs.Prelude.{◌≡◌, ◌≤◌, ◌⊎◌, ℕ, ◌+◌, ◌-◌, ◌^◌, ◌++◌, min, List, [], ◌∷◌, take, length, Option, Some, None, Result, Ok, Err, IsErrOf}
+use Rattle.std.specs.Prelude.{◌≡◌, ◌≤◌, ◌⊎◌, ◌↔◌, ℕ, ◌+◌, ◌-◌, ◌^◌, ◌++◌, min, List, [], ◌∷◌, take, length, Option, Some, None, Result, Ok, Err, IsErr, IsErrOf, Contains}
 use Rattle.std.specs.Option.{option_map}
 use Rattle.shelf.specs.Held.{Held, Change, after_change}
 use Rattle.shelf.specs.declared.fault.OutsideFault.{OutsideFault}
@@ -44,3 +44,26 @@ abbrev pub HasMore : Option (List (List ℕ)) → Type 0
 HasMore None = Unit {0}
 HasMore (Some []) = ⊥
 HasMore (Some (first ∷ rest)) = Unit {0}
+
+-- which calls of an object fail: their numbers, of which the first is 0, and how many calls were made
+pub record Schedule : Type 0 where
+  pub fails : List ℕ
+  pub made : ℕ
+
+-- one more call was made. At its last value the number of calls stands still
+abbrev pub one_more : Schedule → Schedule
+one_more s = record s { made = min (s.made + 1) (2 ^ 64 - 1) }
+
+-- the next call is listed to fail
+abbrev pub IsListed : Schedule → Type 0
+IsListed s = Contains s.fails s.made
+
+-- A call was counted: it failed exactly where it was listed. An object that doesn't tell which calls fail still doesn't.
+abbrev pub Follows : {T : Type 0} → Option Schedule → Option Schedule → Result T OutsideFault → Type 0
+Follows None new result = new ≡ None
+Follows (Some s) new result = (new ≡ Some (one_more s)) × (IsErrOf result Failed ↔ IsListed s)
+
+-- The same of a call for a seed, which also fails where none is to come.
+abbrev pub Fills : {T E : Type 0} → Option Schedule → Option Schedule → Option (List (List ℕ)) → Result T E → Type 0
+Fills None new coming result = new ≡ None
+Fills (Some s) new coming result = (new ≡ Some (one_more s)) × (IsErr result ↔ (IsListed s ⊎ (coming ≡ Some [])))

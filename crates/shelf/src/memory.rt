@@ -2,7 +2,7 @@
 //! were given fail.
 ghost use Rattle.std.specs.Prelude.{◌≡◌, ◌↔◌, ◌++◌, [], drop, Some, IfSome};
 ghost use Rattle.std.specs.FinMap as map;
-ghost use Rattle.shelf.specs.Memory.{held_in};
+ghost use Rattle.shelf.specs.Memory.{held_in, schedule_of};
 
 use crate::calls::Calls;
 use crate::fault::{EntropyFault, OutsideFault};
@@ -26,6 +26,7 @@ impl MemoryShelf {
         ensures held { ⟦<MemoryShelf as Shelf>⟧.held result ≡ Some map.empty }
         ensures faults { ⟦<MemoryShelf as Shelf>⟧.fault_count result ≡ 0 }
         ensures calm { ⟦<MemoryShelf as Shelf>⟧.calm result ↔ (fails.items ≡ []) }
+        ensures schedule { ⟦<MemoryShelf as Shelf>⟧.schedule result ≡ Some (record { fails = fails.items; made = 0 }) }
     {
         MemoryShelf {
             files: BTreeMap::new(alloc),
@@ -47,6 +48,8 @@ impl Shelf for MemoryShelf {
     ghost fault_count = { λ s. s.calls.faults };
 
     ghost calm = { λ s. (s.calls.fails.items ≡ []) × (s.calls.faults ≡ 0) };
+
+    ghost schedule = { λ s. Some (schedule_of s.calls) };
 
     ghost calm_has_no_faults = { λ s calm. calm.1 };
 
@@ -95,6 +98,7 @@ impl MemoryEntropy {
         ensures coming { ⟦<MemoryEntropy as Entropy>⟧.coming result ≡ Some seeds.items }
         ensures faults { ⟦<MemoryEntropy as Entropy>⟧.fault_count result ≡ 0 }
         ensures calm { ⟦<MemoryEntropy as Entropy>⟧.calm result ↔ (fails.items ≡ []) }
+        ensures schedule { ⟦<MemoryEntropy as Entropy>⟧.schedule result ≡ Some (record { fails = fails.items; made = 0 }) }
     {
         MemoryEntropy {
             seeds,
@@ -110,6 +114,8 @@ impl Entropy for MemoryEntropy {
     ghost fault_count = { λ e. e.calls.faults };
 
     ghost calm = { λ e. (e.calls.fails.items ≡ []) × (e.calls.faults ≡ 0) };
+
+    ghost schedule = { λ e. Some (schedule_of e.calls) };
 
     ghost calm_has_no_faults = { λ e calm. calm.1 };
 
@@ -151,6 +157,7 @@ impl MemorySink {
         ensures told { ⟦<MemorySink as Sink>⟧.told result ≡ Some [] }
         ensures faults { ⟦<MemorySink as Sink>⟧.fault_count result ≡ 0 }
         ensures calm { ⟦<MemorySink as Sink>⟧.calm result ↔ (fails.items ≡ []) }
+        ensures schedule { ⟦<MemorySink as Sink>⟧.schedule result ≡ Some (record { fails = fails.items; made = 0 }) }
     {
         MemorySink {
             bytes: Vec::new(alloc),
@@ -172,6 +179,8 @@ impl Sink for MemorySink {
     ghost fault_count = { λ s. s.calls.faults };
 
     ghost calm = { λ s. (s.calls.fails.items ≡ []) × (s.calls.faults ≡ 0) };
+
+    ghost schedule = { λ s. Some (schedule_of s.calls) };
 
     ghost calm_has_no_faults = { λ s calm. calm.1 };
 

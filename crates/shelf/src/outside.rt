@@ -1,9 +1,9 @@
 //! The outside as the program sees it.
-ghost use Rattle.std.specs.Prelude.{◌≡◌, ◌≤◌, ℕ, List, Option, IfOk, IfSome, OnOk, OnErr};
+ghost use Rattle.std.specs.Prelude.{◌≡◌, ◌≤◌, ℕ, List, Option, None, IfOk, IfSome, OnOk, OnErr};
 ghost use Rattle.std.specs.Option.{option_map};
 ghost use Rattle.std.specs.FinMap as map;
 ghost use Rattle.shelf.specs.Held.{Held, Put, Remove};
-ghost use Rattle.shelf.specs.Causes.{HasCause, Makes, Appends, Takes, HasMore, Rose};
+ghost use Rattle.shelf.specs.Causes.{HasCause, Makes, Appends, Takes, HasMore, Rose, Schedule, Follows, Fills};
 
 use crate::fault::{EntropyFault, OutsideFault};
 use std::alloc::Global;
@@ -19,6 +19,9 @@ pub trait Shelf {
     /// The shelf has never failed and won't.
     ghost calm: { Self → Type 0 };
 
+    /// Which calls fail, where the shelf tells it. Its calls are numbered together.
+    ghost schedule: { Self → Option Schedule } = { λ _. None };
+
     /// How often the shelf has failed.
     fn faults(&self) -> u64
         ensures { result ≡ fault_count self.now };
@@ -33,6 +36,7 @@ pub trait Shelf {
             option_map (λ bytes. bytes.items) found ≡ map.get files name.now)) }
         ensures held { held self.new ≡ held self.old }
         ensures cause { HasCause (fault_count self.old) (fault_count self.new) result }
+        ensures scheduled { Follows (schedule self.old) (schedule self.new) result }
         ensures calm { calm self.old → calm self.new };
 
     /// Gives the name these bytes, in place of those that it had.
@@ -43,6 +47,7 @@ pub trait Shelf {
     fn put(&mut self, alloc: Global, name: &str, bytes: &[u8]) -> Result<(), OutsideFault>
         ensures made { Makes (Put name.now bytes.now) (held self.old) (held self.new) result }
         ensures cause { HasCause (fault_count self.old) (fault_count self.new) result }
+        ensures scheduled { Follows (schedule self.old) (schedule self.new) result }
         ensures calm { calm self.old → calm self.new };
 
     /// Takes the name away. Where it isn't held nothing changes, and the answer is `Ok`.
@@ -52,6 +57,7 @@ pub trait Shelf {
     fn remove(&mut self, alloc: Global, name: &str) -> Result<(), OutsideFault>
         ensures made { Makes (Remove name.now) (held self.old) (held self.new) result }
         ensures cause { HasCause (fault_count self.old) (fault_count self.new) result }
+        ensures scheduled { Follows (schedule self.old) (schedule self.new) result }
         ensures calm { calm self.old → calm self.new };
 
     ghost calm_has_no_faults: { (shelf : Self) → calm shelf → fault_count shelf ≡ 0 };
@@ -68,6 +74,9 @@ pub trait Entropy {
     /// The entropy has never failed and won't, as long as seeds are to come.
     ghost calm: { Self → Type 0 };
 
+    /// Which calls fail although a seed is to come, where the entropy tells it.
+    ghost schedule: { Self → Option Schedule } = { λ _. None };
+
     /// How often no seed could be had.
     fn faults(&self) -> u64
         ensures { result ≡ fault_count self.now };
@@ -75,11 +84,14 @@ pub trait Entropy {
     /// Takes the next seed and writes it into `seed`.
     ///
     /// # Errors
-    /// `EntropyFault` only where the count of faults rose. What `seed` then holds isn't said.
+    /// `EntropyFault` only where the count of faults rose. No seed is taken then, and what `seed`
+    /// holds isn't said.
     fn fill(&mut self, seed: &mut [u8; 32]) -> Result<(), EntropyFault>
         ensures taken { OnOk result (Takes seed.new (coming self.old) (coming self.new)) }
+        ensures kept { OnErr result (coming self.new ≡ coming self.old) }
         ensures later { fault_count self.old ≤ fault_count self.new }
         ensures cause { OnErr result (Rose (fault_count self.old) (fault_count self.new)) }
+        ensures scheduled { Fills (schedule self.old) (schedule self.new) (coming self.old) result }
         ensures calm { calm self.old → HasMore (coming self.old) → calm self.new };
 
     ghost calm_has_no_faults: { (entropy : Self) → calm entropy → fault_count entropy ≡ 0 };
@@ -96,6 +108,9 @@ pub trait Sink {
     /// The sink has never failed and won't.
     ghost calm: { Self → Type 0 };
 
+    /// Which calls fail, where the sink tells it.
+    ghost schedule: { Self → Option Schedule } = { λ _. None };
+
     /// How often the sink has failed.
     fn faults(&self) -> u64
         ensures { result ≡ fault_count self.now };
@@ -108,6 +123,7 @@ pub trait Sink {
     fn put(&mut self, alloc: Global, bytes: &[u8]) -> Result<(), OutsideFault>
         ensures appended { Appends bytes.now (told self.old) (told self.new) result }
         ensures cause { HasCause (fault_count self.old) (fault_count self.new) result }
+        ensures scheduled { Follows (schedule self.old) (schedule self.new) result }
         ensures calm { calm self.old → calm self.new };
 
     ghost calm_has_no_faults: { (sink : Self) → calm sink → fault_count sink ≡ 0 };

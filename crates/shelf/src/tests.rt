@@ -2,9 +2,9 @@ use crate::{
     DeviceEntropy, Entropy, EntropyFault, FolderShelf, MemoryEntropy, MemoryShelf, MemorySink,
     OutSink, OutsideFault, Shelf, Sink,
 };
-use std::fs;
 use std::process::Abort;
 use std::test::Fail;
+use std::{env, fs, io};
 
 /// One round of calls on any shelf: put twice, get, remove twice, and a name that was never there.
 fn put_get_remove<R: Abort + AllocGlobal, S: Shelf>(
@@ -27,22 +27,46 @@ fn put_get_remove<R: Abort + AllocGlobal, S: Shelf>(
     Ok(())
 }
 
+/// Goes into a new folder, which no other program has locked.
+fn enter_new_folder(rt: &HostRuntime, name: &str) -> io::Result<()> {
+    fs::create_dir(rt, name)?;
+    env::set_current_dir(rt, name)
+}
+
+/// Goes out of the folder and takes it away.
+fn leave_folder(rt: &HostRuntime, name: &str) -> io::Result<()> {
+    env::set_current_dir(rt, "..")?;
+    fs::remove_dir_all(rt, name)
+}
+
 #[test]
 fn a_folder_gives_back_what_was_put_and_keeps_no_second_file(rt: HostRuntime) -> Result<(), Fail> {
-    let mut shelf = FolderShelf::new(&rt);
-    let before = fs::read_dir(&rt, ".")?.count();
+    enter_new_folder(&rt, "shelf_of_a_test")?;
+    let mut shelf = FolderShelf::open_exclusive(&rt, None)?;
     put_get_remove(&rt, &mut shelf)?;
-    let after = fs::read_dir(&rt, ".")?.count();
-    assert!(rt;
-        after > before && after - before == 1,
-        "the letter alone is new"
-    );
+    let count = fs::read_dir(&rt, ".")?.count();
+    assert_eq!(rt; count, 1, "the letter alone is there");
     shelf.remove(rt.alloc(), "letter.txt")?;
     fs::create_dir(&rt, "folder")?;
     assert!(rt; shelf.put(rt.alloc(), "folder", b"x") == Err(OutsideFault::Failed));
     assert!(rt; shelf.put(rt.alloc(), "none/x", b"x") == Err(OutsideFault::Failed));
     assert_eq!(rt; shelf.faults(), 2);
     assert!(rt; shelf.get(rt.alloc(), "none/x")?.is_none());
+    leave_folder(&rt, "shelf_of_a_test")?;
+    Ok(())
+}
+
+#[test]
+fn a_target_is_told_to_be_there_and_not_replaced(rt: HostRuntime) -> Result<(), Fail> {
+    enter_new_folder(&rt, "target_of_a_test")?;
+    let mut shelf = FolderShelf::open_exclusive(&rt, Some("target.txt"))?;
+    assert!(rt; shelf.put(rt.alloc(), "target.txt", b"here") == Ok(()));
+    assert!(rt; shelf.put(rt.alloc(), "target.txt", b"there") == Err(OutsideFault::Failed));
+    let told = shelf.get(rt.alloc(), "target.txt")?;
+    assert!(rt; told.is_some_and(|bytes| bytes.is_empty()));
+    let bytes = fs::read(&rt, "target.txt")?;
+    assert!(rt; bytes.as_slice() == b"here".as_slice());
+    leave_folder(&rt, "target_of_a_test")?;
     Ok(())
 }
 
