@@ -2,12 +2,14 @@
 """Cases for the program `replay`, with what it must print, from an implementation of its own.
 
     replay_cases.py [--without FEATURES] [--only WORD] STDIN STDOUT
+    replay_cases.py --shelves FOLDER
     replay_cases.py --check
 
 The first form writes the cases to the file STDIN and what must become of them to the file STDOUT. `--without` leaves
 features out, parted by commas, for an implementation that has fewer: `sizes` (create with other sizes than 4 1), `drills`,
-`seal` (seal and open). `--only WORD` writes the cases whose label has the word in it. The second form computes values
-that others published or worked out by hand, and says whether they come out.
+`seal` (seal and open). `--only WORD` writes the cases whose label has the word in it. The second form writes the sample
+shelves whose files are of version 2 into the folder. The third form computes values that others published or worked out
+by hand, and says whether they come out.
 
 Nothing here is taken from the product: ChaCha20 is written from RFC 8439, SHA-256 and HMAC are Python's, a decoder tries
 the polynomials through each few points, and a create is played seat by seat by the rules of the sharing. The same input
@@ -17,6 +19,7 @@ gives the same output on each machine.
 import hashlib
 import hmac
 import itertools
+import os
 import sys
 
 # The field: whole numbers below P, arithmetic modulo P.
@@ -141,14 +144,46 @@ def signed(head):
     return head + hashlib.sha256(head).digest()
 
 
-def share_bytes(name, n, t, index, period, lanes):
-    head = b"DKSH" + bytes([1, n, t, index]) + number_bytes(period, 4) + padded(name)
-    return signed(head + b"".join(number_bytes(lane, 8) for lane in lanes))
+def committee_digest(name, n, t, period, holders, previous):
+    head = bytes([4]) + padded(name) + bytes([n, t]) + number_bytes(period, 4) + number_bytes(holders, 4)
+    return hashlib.sha256(head + previous).digest()
 
 
-def now_bytes(name, n, t, period, next_number):
-    head = b"DKNW" + bytes([1, n, t, 0]) + number_bytes(period, 4) + number_bytes(next_number, 4)
-    return signed(head + padded(name))
+def mask_of(indexes):
+    """Member i at bit i - 1."""
+    return sum(1 << (index - 1) for index in indexes)
+
+
+class Link:
+    """What a now file of version 2 says beside one of version 1."""
+
+    def __init__(self, holders, committee, previous):
+        self.holders, self.committee, self.previous = holders, committee, previous
+
+    def bytes(self):
+        return number_bytes(self.holders, 4) + self.committee + self.previous
+
+
+NO_DIGEST = bytes(32)
+
+
+def link_of(name, n, t, period, holders, previous=NO_DIGEST):
+    """The link with these holders and the right digest."""
+    return Link(holders, committee_digest(name, n, t, period, holders, previous), previous)
+
+
+def share_bytes(name, n, t, index, period, lanes, committee=None):
+    """A share file: of version 2 where the committee's digest is given, else of version 1."""
+    version = 1 if committee is None else 2
+    head = b"DKSH" + bytes([version, n, t, index]) + number_bytes(period, 4) + padded(name)
+    return signed(head + b"".join(number_bytes(lane, 8) for lane in lanes) + (committee or b""))
+
+
+def now_bytes(name, n, t, period, next_number, link=None):
+    """A now file: of version 2 where a link is given, else of version 1."""
+    version = 1 if link is None else 2
+    head = b"DKNW" + bytes([version, n, t, 0]) + number_bytes(period, 4) + number_bytes(next_number, 4)
+    return signed(head + padded(name) + (link.bytes() if link else b""))
 
 
 SHORT, MAGIC, VERSION, FIELD, DIGEST, EXTRA = 1, 2, 3, 4, 5, 6
@@ -165,15 +200,17 @@ def is_bound(n, t):
 
 
 def envelope_fault(magic, size, data):
-    """The number of the first fault of a file, as long as its fields aren't looked at, or None."""
+    """The number of the first fault of a file, as long as its fields aren't looked at, or None. `size` is the length of a
+    file of version 1; one of version 2 has 148 bytes."""
     if len(data) < 5:
         return SHORT
     if data[:4] != magic:
         return MAGIC
-    if data[4] != 1:
+    if data[4] not in (1, 2):
         return VERSION
-    if len(data) != size:
-        return SHORT if len(data) < size else EXTRA
+    whole = size if data[4] == 1 else 148
+    if len(data) != whole:
+        return SHORT if len(data) < whole else EXTRA
     if hashlib.sha256(data[:-32]).digest() != data[-32:]:
         return DIGEST
     return None
@@ -185,8 +222,17 @@ def name_in(data):
     return name if is_name(name) and padded(name) == data else None
 
 
+def read_link(data, name, n, t, period):
+    """The link in the last 68 bytes of a now file's head, or None where it isn't in its range."""
+    holders, committee, previous = int.from_bytes(data[:4], "big"), data[4:36], data[36:68]
+    if holders >= 1 << n or bin(holders).count("1") < n - t:
+        return None
+    right = link_of(name, n, t, period, holders, previous)
+    return right if right.committee == committee else None
+
+
 def read_now(data):
-    """A fault's number, or what a now file says: name, N, T, period, next document number."""
+    """A fault's number, or what a now file says: name, N, T, period, next document number, and the link or None."""
     fault = envelope_fault(b"DKNW", 80, data)
     if fault:
         return fault
@@ -195,17 +241,20 @@ def read_now(data):
     name = name_in(data[16:48])
     if n not in SIZES or not is_bound(n, t) or zero or period < 1 or name is None:
         return FIELD
-    return name, n, t, period, next_number
+    link = read_link(data[48:116], name, n, t, period) if data[4] == 2 else None
+    if data[4] == 2 and link is None:
+        return FIELD
+    return name, n, t, period, next_number, link
 
 
-def read_share(data, name, n, t, index, period):
-    """The five lanes of a share file of this member, or None where these aren't its bytes."""
+def read_share(data, name, n, t, index, period, committee):
+    """The five lanes of a share file of this member in this committee, or None where these aren't its bytes."""
     if envelope_fault(b"DKSH", 116, data):
         return None
     lanes = [int.from_bytes(data[at : at + 8], "big") for at in range(44, 84, 8)]
     if any(lane >= P for lane in lanes):
         return None
-    return lanes if data == share_bytes(name, n, t, index, period, lanes) else None
+    return lanes if data == share_bytes(name, n, t, index, period, lanes, committee) else None
 
 
 # Keys and boxes.
@@ -556,10 +605,11 @@ def now_of(world, name):
 
 def recovered(world, now):
     """The key and the states of the members."""
-    name, n, t, period, _ = now
+    name, n, t, period, _, link = now
+    committee = link.committee if link else None
     files = [world.get(share_name(name, period, index)) for index in range(1, n + 1)]
     lanes_of = [
-        data and read_share(data, name, n, t, index, period) for index, data in enumerate(files, 1)
+        data and read_share(data, name, n, t, index, period, committee) for index, data in enumerate(files, 1)
     ]
     polys = []
     for lane in range(5):
@@ -610,10 +660,11 @@ def create(world, name, n, t, drill_name=None):
     masks = play(seats, drill)
     sound = [me for me in seats if all(party != me for party, _ in drill)]
     changes = [(share_name(name, 1, index), None) for index in range(1, 16)]
+    link = link_of(name, n, t, 1, mask_of(sound))
     for me in sound:
-        data = share_bytes(name, n, t, me, 1, seats[me].shares())
+        data = share_bytes(name, n, t, me, 1, seats[me].shares(), link.committee)
         changes.append((share_name(name, 1, me), data))
-    changes.append((name + ".now", now_bytes(name, n, t, 1, 0)))
+    changes.append((name + ".now", now_bytes(name, n, t, 1, 0, link)))
     texts = [f"create {name} {n} {t} period 1"]
     texts += [f"round {number} mask {mask}" for number, mask in enumerate(masks, 1)]
     texts.append(f"accepted {sum(seats[sound[0]].accepted)} of {5 * n}")
@@ -634,7 +685,7 @@ def seal(world, name, doc_name, box_name):
     if len(doc) > 2**26:
         raise Refused(16, f"length {len(doc)}")
     key, _ = recovered(world, now)
-    changes = [(name + ".now", now_bytes(*now[:4], number + 1)), (box_name, box_bytes(key, name, number, doc))]
+    changes = [(name + ".now", now_bytes(*now[:4], number + 1, now[5])), (box_name, box_bytes(key, name, number, doc))]
     return changes, lines([f"seal {name} number {number} bytes {len(doc)}"])
 
 
@@ -772,20 +823,27 @@ def lanes_at(polys, index):
 
 
 class Key:
-    """The files of a key, and ways to spoil them."""
+    """The files of a key, of version 1 or 2, and ways to spoil them."""
 
-    def __init__(self, n, t, name="k1", period=1, next_number=0, label=None):
+    def __init__(self, n, t, name="k1", period=1, next_number=0, label=None, version=1, holders=None, previous=NO_DIGEST):
         self.n, self.t, self.name, self.period, self.next_number = n, t, name, period, next_number
         self.polys = polynomials(label or f"{name} {n} {t} {period}", t)
-        self.files = {name + ".now": now_bytes(name, n, t, period, next_number)}
+        self.link = None
+        if version == 2:
+            mask = mask_of(range(1, n + 1)) if holders is None else holders
+            self.link = link_of(name, n, t, period, mask, previous)
+        self.files = {name + ".now": now_bytes(name, n, t, period, next_number, self.link)}
         for index in range(1, n + 1):
-            self.put(index, lanes_at(self.polys, index))
+            if holders is None or holders >> (index - 1) & 1:
+                self.put(index, lanes_at(self.polys, index))
 
     def file(self, index):
         return share_name(self.name, self.period, index)
 
     def put(self, index, lanes):
-        self.files[self.file(index)] = share_bytes(self.name, self.n, self.t, index, self.period, lanes)
+        committee = self.link.committee if self.link else None
+        data = share_bytes(self.name, self.n, self.t, index, self.period, lanes, committee)
+        self.files[self.file(index)] = data
         return self
 
     def without(self, *indexes):
@@ -945,6 +1003,106 @@ def now_cases():
     yield Case("check_nothing_held", "check k9")
     only_shares = {name: data for name, data in Key(4, 1).files.items() if name != "k1.now"}
     yield Case("recover_no_now", "recover k1", only_shares)
+
+
+def tied_cases():
+    """Files of version 2: whole, and with files that aren't of the committee."""
+    for n, t in ((4, 1), (5, 1), (7, 2), (10, 3), (13, 4)):
+        key = Key(n, t, period=3, next_number=9, version=2, previous=committee_digest("k1", n, t, 2, 2**n - 1, NO_DIGEST))
+        yield Case(f"tied_recover_{n}", "recover k1", key.files)
+        yield Case(f"tied_seal_{n}", "seal k1 doc box", key.plus(doc=b"x").files)
+    yield Case("tied_recover_holders_but_one", "recover k1", Key(4, 1, version=2, holders=0b1011).files)
+    yield Case("tied_check_a_member_mended_later", "check k1", Key(4, 1, version=2, holders=0b1011).put(3, lanes_at(Key(4, 1).polys, 3)).files)
+    yield Case("tied_recover_one_missing_one_wrong_of_7", "recover k1", Key(7, 2, version=2).without(1).wrong(3).files)
+    yield Case("tied_recover_two_wrong_of_4", "recover k1", Key(4, 1, version=2).wrong(1, 2).files)
+    yield Case("tied_seal_full", "seal k1 doc box", Key(4, 1, next_number=2**32 - 1, version=2).plus(doc=b"x").files)
+    for number in (6, 7, 8):
+        files = Key(4, 1, version=2).plus(doc=b"x").files
+        yield Case(f"tied_seal_shelf_fails_{number}", "seal k1 doc box", files, shelf=[number])
+    sealed = Case("", "seal k1 doc box", Key(4, 1, version=2).plus(doc=b"Meet at noon.\n").files).after()
+    yield Case("tied_seal_again", "seal k1 doc box2", sealed)
+    yield Case("tied_open", "open k1 box out", sealed)
+    created_files = Case("", "create k1 4 1 d", {"d": b"2 1 skew 5\n"}, seeds_for("tied", 4)).after()
+    yield Case("tied_check_created_with_a_drill", "check k1", created_files)
+    yield Case("tied_seal_created_with_a_drill", "seal k1 d box", created_files)
+
+
+def tied_share_cases():
+    """Share files beside a now file of version 2, or of version 1, that aren't of its committee."""
+    key = Key(4, 1, version=2)
+    share, committee = key.files["k1.1.3.share"], key.link.committee
+    lanes = lanes_at(key.polys, 3)
+
+    def other(n=4, t=1, period=1, holders=15, previous=NO_DIGEST, name="k1"):
+        return share_bytes("k1", 4, 1, 3, 1, lanes, committee_digest(name, n, t, period, holders, previous))
+
+    spoiled = {
+        "version_1": share_bytes("k1", 4, 1, 3, 1, lanes),
+        "one_bit_of_the_committee": resigned(share, 84, committee[0] ^ 1),
+        "last_bit_of_the_committee": resigned(share, 115, committee[31] ^ 128),
+        "zeros_for_the_committee": share_bytes("k1", 4, 1, 3, 1, lanes, NO_DIGEST),
+        "other_holders": other(holders=7),
+        "a_committee_before": other(previous=committee),
+        "the_committee_of_another_name": other(name="k2"),
+        "the_committee_of_another_size": other(n=5),
+        "the_committee_of_another_period": other(period=2),
+        "another_member": share_bytes("k1", 4, 1, 4, 1, lanes, committee),
+        "another_period": share_bytes("k1", 4, 1, 3, 2, lanes, committee),
+        "digest": share[:-1] + bytes([share[-1] ^ 1]),
+        "116_bytes": signed(share[:84]),
+        "one_byte_less": share[:-1],
+        "one_byte_more": share + b"\0",
+        "version_3": resigned(share, 4, 3),
+        "version_1_with_a_committee": resigned(share, 4, 1),
+        "lane_p": share_bytes("k1", 4, 1, 3, 1, lanes[:4] + [P], committee),
+    }
+    for what, data in spoiled.items():
+        yield Case(f"tied_check_damaged_{what}", "check k1", Key(4, 1, version=2).damaged(3, data).files)
+    yield Case("check_damaged_version_2", "check k1", Key(4, 1).damaged(3, share).files)
+    yield Case("check_all_of_version_2", "check k1", {**key.files, "k1.now": now_bytes("k1", 4, 1, 1, 0)})
+    yield Case("tied_check_all_of_version_1", "check k1", {**Key(4, 1).files, "k1.now": key.files["k1.now"]})
+
+
+def tied_now_cases():
+    """Now files of version 2 that are none of the key."""
+    now = Key(4, 1, version=2).files["k1.now"]
+    right = link_of("k1", 4, 1, 1, 15)
+
+    def with_link(holders, committee, previous=NO_DIGEST):
+        return now_bytes("k1", 4, 1, 1, 0, Link(holders, committee, previous))
+
+    spoiled = {
+        "one_bit_of_the_digest": resigned(now, 52, now[52] ^ 1),
+        "last_bit_of_the_digest": resigned(now, 83, now[83] ^ 128),
+        "one_bit_of_the_digest_before": resigned(now, 115, 1),
+        "zeros_for_the_digest": with_link(15, NO_DIGEST),
+        "the_digest_of_other_holders": with_link(15, link_of("k1", 4, 1, 1, 7).committee),
+        "the_digest_of_another_name": with_link(15, link_of("k2", 4, 1, 1, 15).committee),
+        "the_digest_of_another_bound": with_link(15, link_of("k1", 4, 2, 1, 15).committee),
+        "the_digest_of_another_period": with_link(15, link_of("k1", 4, 1, 2, 15).committee),
+        "a_holder_above": with_link(31, link_of("k1", 4, 1, 1, 31).committee),
+        "a_holder_above_for_one_below": with_link(0b10111, link_of("k1", 4, 1, 1, 0b10111).committee),
+        "the_highest_bit": with_link(2**31 + 15, link_of("k1", 4, 1, 1, 2**31 + 15).committee),
+        "two_holders": with_link(3, link_of("k1", 4, 1, 1, 3).committee),
+        "no_holders": with_link(0, link_of("k1", 4, 1, 1, 0).committee),
+        "80_bytes": signed(now[:48]),
+        "one_byte_less": now[:-1],
+        "one_byte_more": now + b"\0",
+        "version_1_and_148_bytes": resigned(now, 4, 1),
+        "version_3": resigned(now, 4, 3),
+        "digest": now[:-1] + bytes([now[-1] ^ 1]),
+        "another_name": now_bytes("k2", 4, 1, 1, 0, link_of("k2", 4, 1, 1, 15)),
+        "size_6": resigned(now, 5, 6),
+        "period_0": now_bytes("k1", 4, 1, 0, 0, link_of("k1", 4, 1, 0, 15)),
+        "another_period": resigned(now, 11, 2),
+        "another_size": resigned(now, 5, 5),
+    }
+    for what, data in spoiled.items():
+        yield Case(f"tied_recover_now_{what}", "recover k1", Key(4, 1, version=2).now(data).files)
+    least = now_bytes("k1", 4, 1, 1, 0, link_of("k1", 4, 1, 1, 7))
+    yield Case("tied_recover_now_of_three_holders", "recover k1", Key(4, 1, version=2, holders=7).now(least).files)
+    later = now_bytes("k1", 4, 1, 1, 0, link_of("k1", 4, 1, 1, 15, right.committee))
+    yield Case("tied_check_now_of_another_history", "check k1", Key(4, 1, version=2).now(later).files)
 
 
 def usage_cases():
@@ -1324,6 +1482,9 @@ def all_cases():
         recover_cases,
         damaged_cases,
         now_cases,
+        tied_cases,
+        tied_share_cases,
+        tied_now_cases,
         usage_cases,
         fault_cases,
         create_cases,
@@ -1335,6 +1496,37 @@ def all_cases():
         open_cases,
     ):
         yield from cases()
+
+
+# Sample shelves of version 2: folders of files, and what the program must write over them.
+
+
+def shelf_cases():
+    key = Key(4, 1, period=3, version=2, previous=committee_digest("k1", 4, 1, 2, 15, NO_DIGEST))
+    yield Case("tied", "recover k1", key.files)
+    yield Case("tied_thirteen_check", "check k1", Key(13, 4, version=2).wrong(2, 9).without(5, 13).files)
+    stray = Key(7, 2, version=2)
+    other = Key(7, 2, version=2, holders=0b1011111).files["k1.1.4.share"]
+    yield Case("tied_share_of_another_committee_check", "check k1", stray.damaged(4, other).files)
+    yield Case("tied_and_share_of_version_1_check", "check k1", stray.damaged(4, Key(7, 2).files["k1.1.4.share"]).files)
+    now = Key(4, 1, version=2).files["k1.now"]
+    yield Case("tied_now_of_another_committee", "recover k1", Key(4, 1, version=2).now(resigned(now, 52, now[52] ^ 1)).files)
+
+
+def write_shelves(folder):
+    for case in shelf_cases():
+        world = World(case.held, case.seeds, case.fails)
+        code, line = run(world, case.words)
+        shelf = os.path.join(folder, case.label, "shelf")
+        os.makedirs(shelf, exist_ok=True)
+        written = {"args": lines(case.words), "status": lines([str(code)]), "stdout": world.told, "stderr": lines([line]) if code else ""}
+        for name, text in written.items():
+            with open(os.path.join(folder, case.label, name), "w", encoding="utf-8", newline="\n") as out:
+                out.write(text)
+        for name, data in case.held.items():
+            with open(os.path.join(shelf, name), "wb") as out:
+                out.write(data)
+    return 0
 
 
 # Values that others published or worked out by hand.
@@ -1378,7 +1570,8 @@ def checks():
     yield "a share file", share[:84] == front and len(share) == 116
     yield "a share file less a byte", envelope_fault(b"DKSH", 116, share[:115]) == SHORT
     yield "a share file and a byte", envelope_fault(b"DKSH", 116, share + b"\0") == EXTRA
-    yield "a now file reads back", read_now(now_bytes("k1", 4, 1, 1, 0)) == ("k1", 4, 1, 1, 0)
+    yield "a now file reads back", read_now(now_bytes("k1", 4, 1, 1, 0)) == ("k1", 4, 1, 1, 0, None)
+    yield from tied_checks()
     tag = hmac.new(b"Jefe", b"what do ya want for nothing?", hashlib.sha256).hexdigest()
     yield "RFC 4231, case 2", tag == "5bdcc146bf60754e6a042426089575c75a003f089d2739839dec58b964ec3843"
     empty = box_bytes([1, 2, 3, 4, 5], "k1", 0, b"")
@@ -1397,6 +1590,23 @@ def checks():
     found = "text key e39a69c229a5f7107d42fc6b86e467b611279a1c57d1dfa4befdb8b2ee23bd95" in made
     yield "the key of seeds of repeated bytes", found
     yield from drill_checks()
+
+
+def tied_checks():
+    """Files of version 2."""
+    seeds = seeds_for("any", 4)
+    made = Case("", "create k1 4 1", None, seeds).after()
+    now = made["k1.now"]
+    yield "five files of 148 bytes", len(made) == 5 and all(len(data) == 148 for data in made.values())
+    yield "all four hold a share file", now[48:52] == bytes([0, 0, 0, 15]) and now[84:116] == bytes(32)
+    whole = b"\4k1" + bytes(30) + b"\4\1" + bytes([0, 0, 0, 1]) + bytes([0, 0, 0, 15]) + bytes(32)
+    yield "the committee's digest", now[52:84] == hashlib.sha256(whole).digest() == made["k1.1.2.share"][84:116]
+    strayed = dict(made)
+    strayed["k1.1.3.share"] = resigned(made["k1.1.3.share"], 90, made["k1.1.3.share"][90] ^ 4)
+    checked = Case("", "check k1", strayed).ending()
+    yield "a share file of another committee", "text member 3 damaged" in checked and "text member 4 ok" in checked
+    strayed = {**made, "k1.now": resigned(now, 52, now[52] ^ 1)}
+    yield "a now file with another digest", endings(Case("", "recover k1", strayed))[:2] == ["code 15", "line refused 15 now 4"]
 
 
 def drill_checks():
@@ -1433,6 +1643,8 @@ def check_all():
 def main(arguments):
     if arguments == ["--check"]:
         return check_all()
+    if len(arguments) == 2 and arguments[0] == "--shelves":
+        return write_shelves(arguments[1])
     without, only = set(), ""
     while len(arguments) > 2 and arguments[0] in ("--without", "--only"):
         if arguments[0] == "--without":

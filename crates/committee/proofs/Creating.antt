@@ -1,32 +1,40 @@
--- What a create means leaves share files on one polynomial in each lane.
-use Rattle.std.proofs.Common.{◌≡◌, ℕ, zero, suc, ◌≤◌, Bool, true, false, cond, List, [], Option, Some, None, Result, Ok, Err, refl, sym, ap, ◌∙◌, subst, arith, leb}
+-- What a create means puts share files on one polynomial in each lane.
+use Rattle.std.proofs.Common.{◌≡◌, inl, inr, ℕ, zero, suc, ◌≤◌, Bool, true, false, cond, List, [], take, Option, Some, None, Result, Ok, Err, refl, sym, ap, ◌∙◌, subst, arith, leb}
 use Rattle.std.specs.FinMap.{get}
 use Rattle.std.specs.Prelude.{IfSome}
 use Rattle.std.proofs.lemmas.Bool.{leb-true}
 use Rattle.std.proofs.lemmas.Bool.Decides.{nat_tests}
-use Rattle.shelf.specs.Held.{Held, after}
+use Rattle.shelf.specs.Held.{Held, Change, after}
 use Rattle.sharefile.specs.Names.{is_key_name}
-use Rattle.sharefile.specs.Files.{Now, is_size, is_bound}
-use Rattle.talk.specs.Shape.{IsCommittee}
+use Rattle.sharefile.specs.declared.link.Link.{Link}
+use Rattle.sharefile.proofs.NowLaws.{length-committee_digest}
+use Rattle.sharefile.specs.Files.{Now}
+use Rattle.sizes.specs.Committees.{is_size, is_bound, IsCommittee}
+use Rattle.talk.specs.Shape.{Shape}
+use Rattle.plays.specs.Play.{Play}
 use Rattle.drillbook.specs.declared.order.Order.{Order}
 use Rattle.drillbook.specs.declared.fault.DrillFault.{DrillFault}
+use Rattle.drillbook.specs.Orders.{names}
 use Rattle.drillbook.specs.Text.{drill_at, lines_at, split, counted, named_among}
 use Rattle.drillbook.proofs.Lawful.{both_ok}
-use Rattle.jointkey.specs.Create.{create_shape}
+use Rattle.talk.specs.Shape.{create_shape}
 use Rattle.keyroom.specs.declared.status.Status.{Status}
 use Rattle.keyroom.specs.declared.status.Status.TheVariants.{Done}
-use Rattle.keyroom.specs.Words.{Create, ReadsAs}
+use Rattle.keyroom.specs.Causes.{cause_of}
+use Rattle.keyroom.specs.Words.{Create, IsInRange, ReadsAs}
 use Rattle.keyroom.specs.Names.{now_name}
 use Rattle.keyroom.specs.Outcome.{Outcome, ThenDo}
-use Rattle.keyroom.specs.Steps.{free_step}
-use Rattle.committee.specs.Create.{Creates, first_now, drill_read, drill_step, drill_of, create_play}
+use Rattle.keyroom.specs.Steps.{free_step, free_of, ◌and_then◌}
+use Rattle.keyroom.proofs.Working.{and_then_ok}
+use Rattle.committee.specs.Links.{first_link, holders_of, no_digest}
+use Rattle.committee.specs.Create.{Creates, MeansCreate, create_asked, create_changes, first_now, drill_read, drill_step, drill_of, play_created}
 use Rattle.committee.specs.Answer.{Does}
 use Rattle.committee.specs.Meaning.{Given, Means, AskForSeeds}
-use Rattle.committee.specs.Agreement.{HeldOnOneLine, CreatesOnOneLine, MadeAll}
-use Rattle.committee.proofs.Phases.{proper_create, sound_in}
-use Rattle.committee.proofs.Agreement.{on_one_line}
+use Rattle.committee.specs.Agreement.{PutsOnOneLine, HeldOnOneLine, NewOnOneLine, CreatesOnOneLine, MadeAll}
+use Rattle.committee.proofs.Phases.{proper_create, honest_in}
+use Rattle.committee.proofs.Agreement.{IsTied, puts_on_one_line, all_on_one_line, part_on_one_line, same_on_one_line}
 use Rattle.committee.proofs.OneMeaning.{meant_of}
-use Rattle.committee.proofs.Doing.{made_all}
+use Rattle.committee.proofs.Doing.{MadeSome, made_all, made_some}
 
 -- ---- few are named
 few_cases : (b : Bool) (a orders : List Order) (e : DrillFault) → cond b (Ok a) (Err e) ≡ Ok orders → (b ≡ true) × (a ≡ orders)
@@ -48,50 +56,119 @@ pub none_named : (n shift : ℕ) → named_among [] shift n ≡ 0
 none_named zero shift = refl
 none_named (suc n) shift = omega (arith, none_named n shift)
 
+few_text : (n t : ℕ) (text : List ℕ) (r : Result (List Order) DrillFault) (orders : List Order) → drill_at (create_shape n t) text ≡ r → drill_read r ≡ Ok orders → named_among orders 0 n ≤ t
+few_text n t text (Ok read) orders e h = let same : read ≡ orders = cc in few_read n t text orders (e ∙ ap Ok same)
+few_text n t text (Err fault) orders e h = absurd cc
+
+few_step : (n t : ℕ) (text : Option (List ℕ)) (orders : List Order) → drill_step (create_shape n t) text ≡ Ok orders → named_among orders 0 n ≤ t
+few_step n t None orders e = absurd cc
+few_step n t (Some text) orders e = few_text n t text (drill_at (create_shape n t) text) orders refl e
+
+few_drill : (n t : ℕ) (drill : Option (List ℕ)) (held : Held) (orders : List Order) → drill_of (create_shape n t) drill held ≡ Ok orders → named_among orders 0 n ≤ t
+few_drill n t None held orders e = let same : [] ≡ orders = cc in subst (λ (os : List Order). named_among os 0 n ≤ t) same (omega (arith, none_named n 0))
+few_drill n t (Some file) held orders e = few_step n t (get held file) orders e
+
+few_asked : (name : List ℕ) (n t : ℕ) (drill : Option (List ℕ)) (held : Held) (orders : List Order) → create_asked name (create_shape n t) drill held ≡ Ok orders → named_among orders 0 n ≤ t
+few_asked name n t drill held orders e =
+    let a = and_then_ok (free_of (now_name name) held) (λ free. drill_of (create_shape n t) drill held) orders e in
+    few_drill n t drill held orders a.2
+
+-- ---- the link of a create
+pub first_tied : (name : List ℕ) (n t : ℕ) (down : ℕ → Bool) → IsTied (first_now name n t (first_link name n t down))
+first_tied name n t down = length-committee_digest name n t 1 (holders_of down n) no_digest
+
+-- ---- a refusal isn't Done
+never_read : (r : Result (List Order) DrillFault) (status : Status) → drill_read r ≡ Err status → status ≡ Done → ⊥
+never_read (Ok orders) status e done = cc
+never_read (Err fault) status e done = cc
+
+never_step : (s : Shape) (text : Option (List ℕ)) (status : Status) → drill_step s text ≡ Err status → status ≡ Done → ⊥
+never_step s None status e done = cc
+never_step s (Some text) status e done = never_read (drill_at s text) status e done
+
+never_drill : (s : Shape) (drill : Option (List ℕ)) (held : Held) (status : Status) → drill_of s drill held ≡ Err status → status ≡ Done → ⊥
+never_drill s None held status e done = cc
+never_drill s (Some file) held status e done = never_step s (get held file) status e done
+
+never_free : (o : Option (List ℕ)) (drill : Result (List Order) Status) (status : Status) → (drill ≡ Err status → status ≡ Done → ⊥) → (free_step o and_then λ free. drill) ≡ Err status → status ≡ Done → ⊥
+never_free None drill status h e done = h e done
+never_free (Some bytes) drill status h e done = cc
+
+never_asked : (name : List ℕ) (s : Shape) (drill : Option (List ℕ)) (held : Held) (status : Status) → create_asked name s drill held ≡ Err status → status ≡ Done → ⊥
+never_asked name s drill held status e done = never_free (get held (now_name name)) (drill_of s drill held) status (never_drill s drill held status) e done
+
 -- ---- the steps
-module _ (name : List ℕ) (n t : ℕ) (range : is_size n ≡ true) (bound : is_bound n t ≡ true) (named : is_key_name name ≡ true) (coming : Option (List (List ℕ))) (masks : List ℕ) (held : Held) (outcome : Outcome) (done : outcome.status ≡ Done) where
-  pub committee : IsCommittee n t
-  committee = record { some_bad = grind (arith, nat_tests); third = grind (arith, nat_tests); most = grind (arith, nat_tests) }
+pub committee : (n t : ℕ) → is_size n ≡ true → is_bound n t ≡ true → IsCommittee n t
+committee n t size bound = record { some_bad = grind (arith, nat_tests); third = grind (arith, nat_tests); most = grind (arith, nat_tests) }
 
-  created : (orders : List Order) → named_among orders 0 n ≤ t → Creates name n t coming masks orders outcome → HeldOnOneLine (first_now name n t) (after outcome.changes held)
-  created orders few c =
-      subst (λ (o : Outcome). HeldOnOneLine (first_now name n t) (after o.changes held)) (sym c.4)
-      (on_one_line (first_now name n t) orders (create_play (create_shape n t) orders c.0 masks) named range bound refl held
-      (proper_create n t committee orders c.0 c.1 masks c.3 few) refl
-      (λ j from to up. sound_in n t orders c.0 masks j from to up))
+-- a create that is done: the drill, and what it creates
+pub record WasCreated (name : List ℕ) (n t : ℕ) (drill : Option (List ℕ)) (held : Held) (coming : Option (List (List ℕ))) (masks : List ℕ) (outcome : Outcome) : Type 0 where
+  pub orders : List Order
+  pub asked : create_asked name (create_shape n t) drill held ≡ Ok orders
+  pub creates : Creates name n t coming masks orders outcome
 
-  after_read : (r : Result (List Order) DrillFault) → ((orders : List Order) → r ≡ Ok orders → named_among orders 0 n ≤ t) → ThenDo (drill_read r) (Creates name n t coming masks) outcome →
-      HeldOnOneLine (first_now name n t) (after outcome.changes held)
-  after_read (Ok orders) few c = created orders (few orders refl) c
-  after_read (Err fault) few c = absurd (cc (sym done ∙ ap (λ (o : Outcome). o.status) c))
+asked_cases : (name : List ℕ) (n t : ℕ) (drill : Option (List ℕ)) (held : Held) (coming : Option (List (List ℕ))) (masks : List ℕ) (outcome : Outcome) (r : Result (List Order) Status) →
+    create_asked name (create_shape n t) drill held ≡ r → outcome.status ≡ Done → ThenDo r (Creates name n t coming masks) outcome → WasCreated name n t drill held coming masks outcome
+asked_cases name n t drill held coming masks outcome (Ok orders) e done c = record { orders = orders; asked = e; creates = c }
+asked_cases name n t drill held coming masks outcome (Err status) e done c = absurd (never_asked name (create_shape n t) drill held status e (sym (ap (λ (o : Outcome). o.status) c) ∙ done))
 
-  after_text : (text : Option (List ℕ)) → ThenDo (drill_step (create_shape n t) text) (Creates name n t coming masks) outcome → HeldOnOneLine (first_now name n t) (after outcome.changes held)
-  after_text None c = absurd (cc (sym done ∙ ap (λ (o : Outcome). o.status) c))
-  after_text (Some text) c = after_read (drill_at (create_shape n t) text) (λ orders e. few_read n t text orders e) c
+pub was_created : (name : List ℕ) (n t : ℕ) (drill : Option (List ℕ)) (held : Held) (coming : Option (List (List ℕ))) (masks : List ℕ) (outcome : Outcome) →
+    MeansCreate name n t drill held coming masks outcome → outcome.status ≡ Done → WasCreated name n t drill held coming masks outcome
+was_created name n t drill held coming masks outcome means done = asked_cases name n t drill held coming masks outcome (create_asked name (create_shape n t) drill held) refl done means
 
-  after_drill : (drill : Option (List ℕ)) → ThenDo (drill_of (create_shape n t) drill held) (Creates name n t coming masks) outcome → HeldOnOneLine (first_now name n t) (after outcome.changes held)
-  after_drill None c = created [] (omega (arith, none_named n 0)) c
-  after_drill (Some file) c = after_text (get held file) c
+module _ (name : List ℕ) (n t : ℕ) (drill : Option (List ℕ)) (held : Held) (coming : Option (List (List ℕ))) (masks : List ℕ) (outcome : Outcome) (range : IsInRange (Create name n t drill)) (was : WasCreated name n t drill held coming masks outcome) where
+  created_puts : (link : Option Link) → PutsOnOneLine (first_now name n t link) outcome.changes
+  created_puts link =
+      let c = was.creates in
+      let whole : IsCommittee n t = committee n t range.1 range.2 in
+      subst (λ (o : Outcome). PutsOnOneLine (first_now name n t link) o.changes) (sym c.4)
+      (puts_on_one_line (first_now name n t (first_link name n t (names was.orders))) (play_created n t was.orders c.0 masks) range.0 range.1 range.2 refl (first_tied name n t (names was.orders)) link
+      (proper_create n t whole was.orders c.0 c.1 masks c.3 (few_asked name n t drill held was.orders was.asked)) refl
+      (λ j from to up. honest_in n t was.orders c.0 masks j from to up))
 
-  after_free : (drill : Option (List ℕ)) (now : Option (List ℕ)) → ThenDo (free_step now) (λ _. ThenDo (drill_of (create_shape n t) drill held) (Creates name n t coming masks)) outcome → HeldOnOneLine (first_now name n t) (after outcome.changes held)
-  after_free drill None c = after_drill drill c
-  after_free drill (Some bytes) c = absurd (cc (sym done ∙ ap (λ (o : Outcome). o.status) c))
+  created_held : (link : Option Link) → HeldOnOneLine (first_now name n t link) (after outcome.changes held)
+  created_held link =
+      let c = was.creates in
+      let changes : outcome.changes ≡ create_changes (first_now name n t (first_link name n t (names was.orders))) (play_created n t was.orders c.0 masks) = ap (λ (o : Outcome). o.changes) c.4 in
+      subst (λ cs. HeldOnOneLine (first_now name n t link) (after cs held)) (sym changes)
+      (all_on_one_line (first_now name n t (first_link name n t (names was.orders))) (play_created n t was.orders c.0 masks) range.0 range.1 range.2 refl (first_tied name n t (names was.orders)) link held (subst (PutsOnOneLine (first_now name n t link)) changes (created_puts link)))
 
 pub creates_on_one_line : CreatesOnOneLine
-creates_on_one_line name n t drill held coming masks outcome range means done =
-    after_free name n t range.1 range.2 range.0 coming masks held outcome done drill (get held (now_name name)) means
+creates_on_one_line name n t drill held coming masks outcome range means done = created_puts name n t drill held coming masks outcome range (was_created name n t drill held coming masks outcome means done)
 
--- ---- the clause of the top call
+-- ---- the clauses of the top call
 told_line : (now : Now) (m : Held) (after_all : Held) → Some m ≡ Some after_all → HeldOnOneLine now after_all → HeldOnOneLine now m
 told_line now m after_all e h = subst (HeldOnOneLine now) (cc (sym e)) h
 
 pub run_on_one_line : (words : List (List ℕ)) (coming comes : Option (List (List ℕ))) (told tells : Option (List ℕ)) (status : Status) (old new : Option Held) →
     IfSome old (λ m. Does (Means words (record { held = m; coming = coming })) (AskForSeeds words m) (record { held = old; coming = coming; told = told }) (record { held = new; coming = comes; told = tells }) status) →
-    MadeAll status → IfSome old (λ before. IfSome new (λ m. (name : List ℕ) (n t : ℕ) (drill : Option (List ℕ)) → ReadsAs words (Create name n t drill) → HeldOnOneLine (first_now name n t) m))
+    MadeAll (cause_of status) → IfSome old (λ before. IfSome new (λ m. (name : List ℕ) (n t : ℕ) (drill : Option (List ℕ)) → ReadsAs words (Create name n t drill) → (link : Option Link) → HeldOnOneLine (first_now name n t link) m))
 run_on_one_line words coming comes told tells status None new does made = tt
 run_on_one_line words coming comes told tells status (Some old) None does made = tt
-run_on_one_line words coming comes told tells status (Some old) (Some m) does made = λ name n t drill reads.
+run_on_one_line words coming comes told tells status (Some old) (Some m) does made = λ name n t drill reads link.
     let given : Given = record { held = old; coming = coming } in
     let o = made_all (Means words given) (AskForSeeds words old) (record { held = Some old; coming = coming; told = told }) (record { held = Some m; coming = comes; told = tells }) status made does in
     let meant = meant_of words given (Create name n t drill) o.0 reads o.1 in
-    told_line (first_now name n t) m (after o.0.changes old) o.3 (creates_on_one_line name n t drill old coming meant.0 o.0 reads.in_range meant.1 o.2)
+    told_line (first_now name n t link) m (after o.0.changes old) o.3
+    (created_held name n t drill old coming _ o.0 reads.in_range (was_created name n t drill old coming _ o.0 meant.1 o.2) link)
+
+-- after a part of the changes
+part_line : (words : List (List ℕ)) (given : Given) (new : Held) (name : List ℕ) (n t : ℕ) (drill : Option (List ℕ)) → ReadsAs words (Create name n t drill) → (made : MadeSome (Means words given) (Some given.held) (Some new)) → (link : Option Link) → NewOnOneLine (first_now name n t link) given.held new
+part_line words given new name n t drill reads made link =
+    let meant = meant_of words given (Create name n t drill) made.outcome reads made.meant in
+    let was = was_created name n t drill given.held given.coming _ made.outcome meant.1 made.planned in
+    let is : new ≡ after (take made.count made.outcome.changes) given.held = let e = made.is in cc in
+    subst (NewOnOneLine (first_now name n t link) given.held) (sym is)
+    (part_on_one_line (first_now name n t link) made.outcome.changes made.count given.held (created_puts name n t drill given.held given.coming _ made.outcome reads.in_range was link))
+
+pub run_stopped : (words : List (List ℕ)) (coming comes : Option (List (List ℕ))) (told tells : Option (List ℕ)) (status : Status) (old new : Option Held) →
+    IfSome old (λ m. Does (Means words (record { held = m; coming = coming })) (AskForSeeds words m) (record { held = old; coming = coming; told = told }) (record { held = new; coming = comes; told = tells }) status) →
+    IfSome old (λ before. IfSome new (λ m. (name : List ℕ) (n t : ℕ) (drill : Option (List ℕ)) → ReadsAs words (Create name n t drill) → (link : Option Link) → NewOnOneLine (first_now name n t link) before m))
+run_stopped words coming comes told tells status None new does = tt
+run_stopped words coming comes told tells status (Some old) None does = tt
+run_stopped words coming comes told tells status (Some old) (Some m) does = λ name n t drill reads link.
+    let given : Given = record { held = old; coming = coming } in
+    elim (made_some (Means words given) (AskForSeeds words old) (record { held = Some old; coming = coming; told = told }) (record { held = Some m; coming = comes; told = tells }) status does) [
+      | inl same ↦ let is : m ≡ old = cc in subst (NewOnOneLine (first_now name n t link) old) (sym is) (same_on_one_line (first_now name n t link) old)
+      | inr made ↦ part_line words given m name n t drill reads made link
+    ]

@@ -1,134 +1,228 @@
 -- A plan that was carried out is what the words mean.
-use Rattle.std.proofs.Common.{◌≡◌, ℕ, List, [], Option, Some, None, Result, Ok, Err, refl, subst, inl, inr, arith}
-use Rattle.std.specs.Prelude.{IfSome}
+use Rattle.std.proofs.Common.{◌≡◌, ◌≤◌, ◌⊎◌, ℕ, List, [], length, take, Option, Some, None, Result, Ok, Err, refl, sym, ap, ◌∙◌, subst, inl, inr, arith, append-nil}
+use Rattle.std.specs.Prelude.{IfSome, IfErr}
 use Rattle.std.specs.Option.{option_map}
-use Rattle.shelf.specs.Held.{Held, after}
+use Rattle.std.proofs.lemmas.List.{take_all}
+use Rattle.shelf.specs.Held.{Held, Change, after}
+use Rattle.shelf.specs.Causes.{Rose}
 use Rattle.keyroom.specs.declared.status.Status.{Status}
-use Rattle.keyroom.specs.declared.status.Status.TheVariants.{Done, Usage, NoSuch, Exists, NoKey, BadBox, Full, BadDrill, ShelfFault, EntropyFault, SinkFault, OutOfMemory, BadNow, TooLong}
+use Rattle.keyroom.specs.declared.status.Status.TheVariants as answer
 use Rattle.keyroom.specs.declared.plan.Plan.{Plan}
-use Rattle.keyroom.specs.Outcome.{Outcome, refused, Refuses}
-use Rattle.keyroom.specs.Answer.{Carries, Plans}
-use Rattle.keyroom.proofs.Refusals.{refuses_weaker}
-use Rattle.committee.specs.Answer.{World, Took, PlansWith, CarriedOut, Does}
-use Rattle.committee.specs.Causes.{IsFromSeededPlan}
-use Rattle.committee.specs.Meaning.{Given, MeansCommand, Means, TakesSeeds, AskForSeeds}
+use Rattle.keyroom.specs.Causes.{Cause, Done, Refusal, Shelf, Entropy, Sink, Memory, cause_of, IsOfPlan, IsFromPlan}
+use Rattle.keyroom.specs.Outcome.{Outcome, refused}
+use Rattle.keyroom.specs.Changes.{outcome_of}
+use Rattle.keyroom.specs.Answer.{IsChanged, IsTold, Carries, Plans}
+use Rattle.keyroom.specs.Words.{Command, ReadsAs, IsUsage}
+use Rattle.committee.specs.Answer.{World, Took, TookAsked, StopsBefore, PlansWith, CarriedOut, DoesBy, Does, IsWhole, Completes, Writes}
+use Rattle.committee.specs.Meaning.{Given, MeansSome, Means, TakesSeeds, AskForSeeds}
 use Rattle.committee.specs.Agreement.{MadeAll}
-use Rattle.keyroom.specs.Words.{Command, ReadsAs}
 
 pub if_told : {A : Type 0} {P Q : A → Type 0} (o : Option A) → ((m : A) → P m → Q m) → IfSome o P → IfSome o Q
 if_told None f h = tt
 if_told (Some m) f h = f m h
 
-pub if_both : {A : Type 0} {P Q R : A → Type 0} (o : Option A) → ((m : A) → P m → Q m → R m) → IfSome o P → IfSome o Q → IfSome o R
-if_both None f h k = tt
-if_both (Some m) f h k = f m h k
+-- ---- a plan was carried out
+module _ (means : Outcome → Type 0) (asks : ℕ → Type 0) (before after : World) (o : Outcome) (is : means o) (planned : o.status ≡ answer.Done) (took : Took o.taken before.coming after.coming) where
+  whole : (cause : Cause) → Carries o.changes o.text before.held after.held before.told after.told cause → CarriedOut means before after cause o
+  whole cause carried = record { meant = is; planned = planned; carried = carried; took = took }
 
-module _ (means : Outcome → Type 0) (asks : Type 0) (before after : World) (o : Outcome) (is : means o) (planned : o.status ≡ Done) (took : Took o.taken before.coming after.coming) where
-  whole : (status : Status) → Carries o.changes o.text before.held after.held before.told after.told status → CarriedOut means before after status o
-  whole status carried = record { meant = is; planned = planned; carried = carried; took = took }
-
-  does : (status : Status) → Carries o.changes o.text before.held after.held before.told after.told status → Does means asks before after status
-  does Done carried = (o, whole Done carried)
-  does SinkFault carried = (o, whole SinkFault carried)
-  does ShelfFault carried = inr (o, whole ShelfFault carried)
-  does OutOfMemory carried = inr (o, whole OutOfMemory carried)
-  does EntropyFault carried = absurd carried
-  does Usage carried = absurd carried
-  does (NoSuch what) carried = absurd carried
-  does Exists carried = absurd carried
-  does (NoKey lane) carried = absurd carried
-  does (BadBox fault) carried = absurd carried
-  does (Full number) carried = absurd carried
-  does (BadDrill fault) carried = absurd carried
-  does (BadNow fault) carried = absurd carried
-  does (TooLong length) carried = absurd carried
+  does : (status : Status) (cause : Cause) → Carries o.changes o.text before.held after.held before.told after.told cause → DoesBy means asks before after status cause
+  does status Done carried = (o, whole Done carried)
+  does status Refusal carried = absurd carried
+  does status Shelf carried = inr (o, whole Shelf carried)
+  does status Entropy carried = absurd carried
+  does status Sink carried = (o, whole Sink carried)
+  does status Memory carried = inr (o, whole Memory carried)
 
   -- after calls that only read
-  pub does_then : (mid : Option Held) (status : Status) → mid ≡ before.held → Carries o.changes o.text mid after.held before.told after.told status → Does means asks before after status
-  does_then mid status same carried = does status (subst (λ h. Carries o.changes o.text h after.held before.told after.told status) same carried)
+  pub does_then : (mid : Option Held) (status : Status) → mid ≡ before.held → Carries o.changes o.text mid after.held before.told after.told (cause_of status) → Does means asks before after status
+  does_then mid status same carried = does status (cause_of status) (subst (λ h. Carries o.changes o.text h after.held before.told after.told (cause_of status)) same carried)
 
--- what was done of one meaning was done of a weaker one
-module _ (means on : Outcome → Type 0) (asks may : Type 0) (weaker : (o : Outcome) → means o → on o) (ask : asks → may) (before after : World) where
-  carried_of : (status : Status) → (o : Outcome) × CarriedOut means before after status o → (o : Outcome) × CarriedOut on before after status o
-  carried_of status (o, c) = (o, record { meant = weaker o c.meant; planned = c.planned; carried = c.carried; took = c.took })
+-- ---- what was done of one meaning was done of a weaker one
+asked_weaker : (asks may : ℕ → Type 0) → ((count : ℕ) → asks count → may count) → (coming comes : Option (List (List ℕ))) → TookAsked asks coming comes → TookAsked may coming comes
+asked_weaker asks may ask coming comes (count, is, took) = (count, ask count is, took)
 
-  pub does_weaker : (status : Status) → Does means asks before after status → Does on may before after status
-  does_weaker Done d = carried_of Done d
-  does_weaker SinkFault d = carried_of SinkFault d
-  does_weaker ShelfFault (inl same) = inl same
-  does_weaker ShelfFault (inr d) = inr (carried_of ShelfFault d)
-  does_weaker OutOfMemory (inl same) = inl same
-  does_weaker OutOfMemory (inr d) = inr (carried_of OutOfMemory d)
-  does_weaker EntropyFault d = (ask d.0, d.1)
-  does_weaker Usage d = (weaker (refused Usage) d.0, d.1)
-  does_weaker (NoSuch what) d = (weaker (refused (NoSuch what)) d.0, d.1)
-  does_weaker Exists d = (weaker (refused Exists) d.0, d.1)
-  does_weaker (NoKey lane) d = (weaker (refused (NoKey lane)) d.0, d.1)
-  does_weaker (BadBox fault) d = (weaker (refused (BadBox fault)) d.0, d.1)
-  does_weaker (Full number) d = (weaker (refused (Full number)) d.0, d.1)
-  does_weaker (BadDrill fault) d = (weaker (refused (BadDrill fault)) d.0, d.1)
-  does_weaker (BadNow fault) d = (weaker (refused (BadNow fault)) d.0, d.1)
-  does_weaker (TooLong length) d = (weaker (refused (TooLong length)) d.0, d.1)
+module _ (means on : Outcome → Type 0) (asks may : ℕ → Type 0) (weaker : (o : Outcome) → means o → on o) (ask : (count : ℕ) → asks count → may count) where
+  carried_of : (before after : World) (cause : Cause) → (o : Outcome) × CarriedOut means before after cause o → (o : Outcome) × CarriedOut on before after cause o
+  carried_of before after cause (o, c) = (o, record { meant = weaker o c.meant; planned = c.planned; carried = c.carried; took = c.took })
 
--- a plan that takes no seeds
-took_none : (coming : Option (List (List ℕ))) → Took 0 coming coming
+  does_by_weaker : (before after : World) (status : Status) (cause : Cause) → DoesBy means asks before after status cause → DoesBy on may before after status cause
+  does_by_weaker before after status Done d = carried_of before after Done d
+  does_by_weaker before after status Refusal d = (weaker (refused status) d.0, d.1)
+  does_by_weaker before after status Shelf (inl same) = inl same
+  does_by_weaker before after status Shelf (inr d) = inr (carried_of before after Shelf d)
+  does_by_weaker before after status Entropy d = (d.0, asked_weaker asks may ask before.coming after.coming d.1)
+  does_by_weaker before after status Sink d = carried_of before after Sink d
+  does_by_weaker before after status Memory (inl (same, inl none)) = inl (same, inl none)
+  does_by_weaker before after status Memory (inl (same, inr some)) = inl (same, inr (asked_weaker asks may ask before.coming after.coming some))
+  does_by_weaker before after status Memory (inr d) = inr (carried_of before after Memory d)
+
+  pub does_weaker : (before after : World) (status : Status) → Does means asks before after status → Does on may before after status
+  does_weaker before after status d = does_by_weaker before after status (cause_of status) d
+
+  stops_weaker : (coming comes : Option (List (List ℕ))) (status : Status) (cause : Cause) → StopsBefore means asks coming comes status cause → StopsBefore on may coming comes status cause
+  stops_weaker coming comes status Done h = absurd h
+  stops_weaker coming comes status Refusal h = (weaker (refused status) h.0, h.1)
+  stops_weaker coming comes status Shelf h = h
+  stops_weaker coming comes status Entropy h = asked_weaker asks may ask coming comes h
+  stops_weaker coming comes status Sink h = absurd h
+  stops_weaker coming comes status Memory (inl same) = inl same
+  stops_weaker coming comes status Memory (inr some) = inr (asked_weaker asks may ask coming comes some)
+
+  pub plans_weaker : (coming comes : Option (List (List ℕ))) (r : Result Plan Status) → PlansWith means asks coming comes r → PlansWith on may coming comes r
+  plans_weaker coming comes (Ok plan) h = (h.0, weaker (outcome_of h.0 plan) h.1, h.2)
+  plans_weaker coming comes (Err status) h = stops_weaker coming comes status (cause_of status) h
+
+-- ---- a plan that takes no seeds
+pub took_none : (coming : Option (List (List ℕ))) → Took 0 coming coming
 took_none None = record { there = tt; gone = refl }
 took_none (Some seeds) = record { there = omega arith; gone = refl }
 
+-- a step that takes none refused
+pub stops_asking : (means : Outcome → Type 0) (asks : ℕ → Type 0) (coming comes : Option (List (List ℕ))) (status : Status) (cause : Cause) → cause_of status ≡ cause → IsOfPlan cause → comes ≡ coming →
+    (cause_of status ≡ Refusal → means (refused status)) → StopsBefore means asks coming comes status cause
+stops_asking means asks coming comes status Done e by same h = absurd by
+stops_asking means asks coming comes status Refusal e by same h = (h e, same)
+stops_asking means asks coming comes status Shelf e by same h = same
+stops_asking means asks coming comes status Entropy e by same h = absurd by
+stops_asking means asks coming comes status Sink e by same h = absurd by
+stops_asking means asks coming comes status Memory e by same h = inl same
+
 -- of a command that is the same under all masks
-plans_with : (means : Outcome → Type 0) (coming : Option (List (List ℕ))) (r : Result Plan Status) → Plans means r → PlansWith (λ o. (masks : List ℕ) × means o) coming coming r
-plans_with means coming (Ok plan) h = (0, ([], h), took_none coming)
-plans_with means coming (Err status) h = refuses_weaker (λ s. means (refused s)) (λ s. ((masks : List ℕ) × means (refused s)) × (coming ≡ coming)) status (λ s k. (([], k), refl)) h
+plans_with : (means : Outcome → Type 0) (asks : ℕ → Type 0) (coming : Option (List (List ℕ))) (before now : ℕ) (r : Result Plan Status) → IfErr r (λ s. IsFromPlan before now s) → Plans means r →
+    PlansWith (λ o. (masks : List (List ℕ)) × means o) asks coming coming r
+plans_with means asks coming before now (Ok plan) from h = (0, ([], h), took_none coming)
+plans_with means asks coming before now (Err status) from h = stops_asking (λ o. (masks : List (List ℕ)) × means o) asks coming coming status (cause_of status) refl from.by refl (λ is. ([], h is))
 
-pub plans_told : (M : Held → Outcome → Type 0) (told : Option Held) (coming : Option (List (List ℕ))) (r : Result Plan Status) → IfSome told (λ m. Plans (M m) r) → IfSome told (λ m. PlansWith (λ o. (masks : List ℕ) × M m o) coming coming r)
-plans_told M told coming r h = if_told {P = λ m. Plans (M m) r} {Q = λ m. PlansWith (λ o. (masks : List ℕ) × M m o) coming coming r} told (λ m. plans_with (M m) coming r) h
+pub plans_told : (M : Held → Outcome → Type 0) (asks : Held → ℕ → Type 0) (held : Option Held) (coming : Option (List (List ℕ))) (before now : ℕ) (r : Result Plan Status) → IfErr r (λ s. IsFromPlan before now s) →
+    IfSome held (λ m. Plans (M m) r) → IfSome held (λ m. PlansWith (λ o. (masks : List (List ℕ)) × M m o) (asks m) coming coming r)
+plans_told M asks held coming before now r from h =
+    if_told {P = λ m. Plans (M m) r} {Q = λ m. PlansWith (λ o. (masks : List (List ℕ)) × M m o) (asks m) coming coming r} held (λ m. plans_with (M m) (asks m) coming before now r from) h
 
--- a plan is for what the words mean
-pub read_under : (words : List (List ℕ)) (given : Given) (command : Command) (o : Outcome) → ReadsAs words command → (masks : List ℕ) × MeansCommand command given masks o → Means words given o
+-- ---- a plan is for what the words mean
+pub read_under : (words : List (List ℕ)) (given : Given) (command : Command) (o : Outcome) → ReadsAs words command → MeansSome command given o → Means words given o
 read_under words given command o reads h = (h.0, inr (command, reads, h.1))
 
+-- ---- changes were made
 -- all changes of an outcome were made, where the shelf tells what it holds
-pub made_all : (means : Outcome → Type 0) (asks : Type 0) (before now : World) (status : Status) → MadeAll status → Does means asks before now status → (o : Outcome) × means o × (o.status ≡ Done) × (now.held ≡ option_map (after o.changes) before.held)
-made_all means asks before now Done made (o, c) = (o, c.meant, c.planned, c.carried.0)
-made_all means asks before now SinkFault made (o, c) = (o, c.meant, c.planned, c.carried.0)
-made_all means asks before now Usage made does = absurd made
-made_all means asks before now (NoSuch what) made does = absurd made
-made_all means asks before now Exists made does = absurd made
-made_all means asks before now (NoKey lane) made does = absurd made
-made_all means asks before now (BadBox fault) made does = absurd made
-made_all means asks before now (Full number) made does = absurd made
-made_all means asks before now (BadDrill fault) made does = absurd made
-made_all means asks before now ShelfFault made does = absurd made
-made_all means asks before now EntropyFault made does = absurd made
-made_all means asks before now OutOfMemory made does = absurd made
-made_all means asks before now (BadNow fault) made does = absurd made
-made_all means asks before now (TooLong length) made does = absurd made
+made_by : (means : Outcome → Type 0) (asks : ℕ → Type 0) (before now : World) (status : Status) (cause : Cause) → MadeAll cause → DoesBy means asks before now status cause → (o : Outcome) × means o × (o.status ≡ answer.Done) × (now.held ≡ option_map (after o.changes) before.held)
+made_by means asks before now status Done made (o, c) = (o, c.meant, c.planned, c.carried.0)
+made_by means asks before now status Refusal made d = absurd made
+made_by means asks before now status Shelf made d = absurd made
+made_by means asks before now status Entropy made d = absurd made
+made_by means asks before now status Sink made (o, c) = (o, c.meant, c.planned, c.carried.0)
+made_by means asks before now status Memory made d = absurd made
 
--- a refusal before anything is changed is what the words mean, unless the outside or memory failed
+pub made_all : (means : Outcome → Type 0) (asks : ℕ → Type 0) (before now : World) (status : Status) → MadeAll (cause_of status) → Does means asks before now status → (o : Outcome) × means o × (o.status ≡ answer.Done) × (now.held ≡ option_map (after o.changes) before.held)
+made_all means asks before now status made d = made_by means asks before now status (cause_of status) made d
+
+-- a part of them, from the front
+pub record MadeSome (means : Outcome → Type 0) (old new : Option Held) : Type 0 where
+  pub outcome : Outcome
+  pub meant : means outcome
+  pub planned : outcome.status ≡ answer.Done
+  pub count : ℕ
+  pub is : new ≡ option_map (after (take count outcome.changes)) old
+
+whole_made : (old new : Option Held) (changes : List Change) → new ≡ option_map (after changes) old → new ≡ option_map (after (take (length changes) changes)) old
+whole_made old new changes e = e ∙ ap (λ cs. option_map (after cs) old) (sym (take_all (length changes) changes (omega arith)))
+
+made_some_by : (means : Outcome → Type 0) (asks : ℕ → Type 0) (before now : World) (status : Status) (cause : Cause) → DoesBy means asks before now status cause → (now.held ≡ before.held) ⊎ MadeSome means before.held now.held
+made_some_by means asks before now status Done (o, c) = inr (record { outcome = o; meant = c.meant; planned = c.planned; count = length o.changes; is = whole_made before.held now.held o.changes c.carried.0 })
+made_some_by means asks before now status Refusal d = inl (ap (λ (w : World). w.held) d.1)
+made_some_by means asks before now status Shelf (inl same) = inl (ap (λ (w : World). w.held) same)
+made_some_by means asks before now status Shelf (inr (o, c)) = inr (record { outcome = o; meant = c.meant; planned = c.planned; count = c.carried.0.0; is = c.carried.0.2 })
+made_some_by means asks before now status Entropy d = inl d.0.held
+made_some_by means asks before now status Sink (o, c) = inr (record { outcome = o; meant = c.meant; planned = c.planned; count = length o.changes; is = whole_made before.held now.held o.changes c.carried.0 })
+made_some_by means asks before now status Memory (inl (same, none)) = inl same.held
+made_some_by means asks before now status Memory (inr (o, c)) = inr (record { outcome = o; meant = c.meant; planned = c.planned; count = c.carried.0.0; is = c.carried.0.2 })
+
+pub made_some : (means : Outcome → Type 0) (asks : ℕ → Type 0) (before now : World) (status : Status) → Does means asks before now status → (now.held ≡ before.held) ⊎ MadeSome means before.held now.held
+made_some means asks before now status d = made_some_by means asks before now status (cause_of status) d
+
+-- ---- a refusal before anything is changed is what the words mean, unless the outside or memory failed
 world_same : (old new : Option Held) (coming comes : Option (List (List ℕ))) (told : Option (List ℕ)) → new ≡ old → comes ≡ coming →
     ◌≡◌ {A = World} (record { held = new; coming = comes; told = told }) (record { held = old; coming = coming; told = told })
 world_same old new coming comes told e f = rw (e, f) refl
 
 module _ (words : List (List ℕ)) (given : Given) (command : Command) (reads : ReadsAs words command) (old new : Option Held) (comes : Option (List (List ℕ))) (told : Option (List ℕ)) (same : new ≡ old) where
-  refused_as : (status : Status) → ((masks : List ℕ) × MeansCommand command given masks (refused status)) × (comes ≡ given.coming) →
-      Means words given (refused status) × ◌≡◌ {A = World} (record { held = new; coming = comes; told = told }) (record { held = old; coming = given.coming; told = told })
-  refused_as status h = (read_under words given command (refused status) reads h.0, world_same old new given.coming comes told same h.1)
+  ask : (count : ℕ) → TakesSeeds command given.held count → AskForSeeds words given.held count
+  ask count takes = (command, reads, takes)
 
-  pub refused_does : (before now first last : ℕ) (status : Status) → IsFromSeededPlan before now first last status →
-      Refuses status (λ s. ((masks : List ℕ) × MeansCommand command given masks (refused s)) × (comes ≡ given.coming)) →
-      (status ≡ EntropyFault → TakesSeeds command given.held) →
+  refused_by : (status : Status) (cause : Cause) → StopsBefore (MeansSome command given) (TakesSeeds command given.held) given.coming comes status cause →
+      DoesBy (Means words given) (AskForSeeds words given.held) (record { held = old; coming = given.coming; told = told }) (record { held = new; coming = comes; told = told }) status cause
+  refused_by status Done h = absurd h
+  refused_by status Refusal h = (read_under words given command (refused status) reads h.0, world_same old new given.coming comes told same h.1)
+  refused_by status Shelf h = inl (world_same old new given.coming comes told same h)
+  refused_by status Entropy h = (record { held = same; told = refl }, asked_weaker (TakesSeeds command given.held) (AskForSeeds words given.held) ask given.coming comes h)
+  refused_by status Sink h = absurd h
+  refused_by status Memory (inl none) = inl (record { held = same; told = refl }, inl none)
+  refused_by status Memory (inr some) = inl (record { held = same; told = refl }, inr (asked_weaker (TakesSeeds command given.held) (AskForSeeds words given.held) ask given.coming comes some))
+
+  pub refused_does : (status : Status) → StopsBefore (MeansSome command given) (TakesSeeds command given.held) given.coming comes status (cause_of status) →
       Does (Means words given) (AskForSeeds words given.held) (record { held = old; coming = given.coming; told = told }) (record { held = new; coming = comes; told = told }) status
-  refused_does before now first last Done cause h takes = absurd cause
-  refused_does before now first last Usage cause h takes = absurd cause
-  refused_does before now first last SinkFault cause h takes = absurd cause
-  refused_does before now first last ShelfFault cause h takes = inl (record { held = same; told = refl })
-  refused_does before now first last OutOfMemory cause h takes = inl (record { held = same; told = refl })
-  refused_does before now first last EntropyFault cause h takes = ((command, reads, takes refl), record { held = same; told = refl })
-  refused_does before now first last (NoSuch what) cause h takes = refused_as (NoSuch what) h
-  refused_does before now first last Exists cause h takes = refused_as Exists h
-  refused_does before now first last (NoKey lane) cause h takes = refused_as (NoKey lane) h
-  refused_does before now first last (BadBox fault) cause h takes = refused_as (BadBox fault) h
-  refused_does before now first last (Full number) cause h takes = refused_as (Full number) h
-  refused_does before now first last (BadDrill fault) cause h takes = refused_as (BadDrill fault) h
-  refused_does before now first last (BadNow fault) cause h takes = refused_as (BadNow fault) h
-  refused_does before now first last (TooLong length) cause h takes = refused_as (TooLong length) h
+  refused_does status h = refused_by status (cause_of status) h
+
+-- ---- without faults it is done whole
+unchanged : (old : Option Held) → IsChanged [] old old
+unchanged None = refl
+unchanged (Some held) = refl
+
+untold : (told : Option (List ℕ)) → IsTold [] told told
+untold None = refl
+untold (Some text) = ap Some (sym (append-nil text))
+
+module _ (means : Outcome → Type 0) (asks : ℕ → Type 0) (before after : World) where
+  refusal_whole : (status : Status) → means (refused status) → after ≡ before → IsWhole means before after status (refused status)
+  refusal_whole status is same = subst (λ (w : World). IsWhole means before w status (refused status)) (sym same)
+      (record { meant = is; answered = refl; held = unchanged before.held; told = untold before.told; took = took_none before.coming })
+
+  completes_by : (status : Status) (cause : Cause) → cause_of status ≡ cause → (cause ≡ Done → status ≡ answer.Done) → (cause ≡ Shelf → ⊥) → (cause ≡ Entropy → ⊥) → (cause ≡ Sink → ⊥) → DoesBy means asks before after status cause → Completes means before after status
+  completes_by status Done e done shelf entropy sink (o, c) = inr (o, record { meant = c.meant; answered = c.planned ∙ sym (done refl); held = c.carried.0; told = c.carried.1; took = c.took })
+  completes_by status Refusal e done shelf entropy sink d = inr (refused status, refusal_whole status d.0 d.1)
+  completes_by status Shelf e done shelf entropy sink d = absurd (shelf refl)
+  completes_by status Entropy e done shelf entropy sink d = absurd (entropy refl)
+  completes_by status Sink e done shelf entropy sink d = absurd (sink refl)
+  completes_by status Memory e done shelf entropy sink d = inl e
+
+  pub completes : (status : Status) → (cause_of status ≡ Done → status ≡ answer.Done) → (cause_of status ≡ Shelf → ⊥) → (cause_of status ≡ Entropy → ⊥) → (cause_of status ≡ Sink → ⊥) → Does means asks before after status → Completes means before after status
+  completes status done shelf entropy sink d = completes_by status (cause_of status) refl done shelf entropy sink d
+
+-- ---- what the sink was given
+written_by : (changes : List Change) (text : List ℕ) (old new : Option Held) (told tells : Option (List ℕ)) (cause : Cause) → Carries changes text old new told tells cause → Writes told tells cause
+written_by changes text old new told tells Done (changed, is) = (text, is)
+written_by changes text old new told tells Refusal carried = absurd carried
+written_by changes text old new told tells Shelf (part, same) = same
+written_by changes text old new told tells Entropy carried = absurd carried
+written_by changes text old new told tells Sink (changed, (n, le, is)) = (take n text, is)
+written_by changes text old new told tells Memory (part, same) = same
+
+pub written : (changes : List Change) (text : List ℕ) (old new : Option Held) (told tells : Option (List ℕ)) (status : Status) → Carries changes text old new told tells (cause_of status) → Writes told tells (cause_of status)
+written changes text old new told tells status carried = written_by changes text old new told tells (cause_of status) carried
+
+quiet_by : (told tells : Option (List ℕ)) (cause : Cause) → (cause ≡ Done → ⊥) → (cause ≡ Sink → ⊥) → tells ≡ told → Writes told tells cause
+quiet_by told tells Done undone unsunk same = absurd (undone refl)
+quiet_by told tells Refusal undone unsunk same = same
+quiet_by told tells Shelf undone unsunk same = same
+quiet_by told tells Entropy undone unsunk same = same
+quiet_by told tells Sink undone unsunk same = absurd (unsunk refl)
+quiet_by told tells Memory undone unsunk same = same
+
+pub quiet : (told tells : Option (List ℕ)) (status : Status) → (cause_of status ≡ Done → ⊥) → (cause_of status ≡ Sink → ⊥) → tells ≡ told → Writes told tells (cause_of status)
+quiet told tells status undone unsunk same = quiet_by told tells (cause_of status) undone unsunk same
+
+-- ---- no fault where nothing failed
+pub never_rose : (before now : ℕ) → before ≡ 0 → now ≡ 0 → Rose before now → ⊥
+never_rose before now e f rose = omega (arith, e, f, rose)
+
+pub carries_no_entropy : (changes : List Change) (text : List ℕ) (old new : Option Held) (told tells : Option (List ℕ)) (cause : Cause) → Carries changes text old new told tells cause → cause ≡ Entropy → ⊥
+carries_no_entropy changes text old new told tells cause carried e = subst (λ c. Carries changes text old new told tells c) e carried
+
+-- words that are no command, whatever is asked beside
+pub usage_whole : (words : List (List ℕ)) (held : Option Held) (coming : Option (List (List ℕ))) (told : Option (List ℕ)) (A B C D : Type 0) → IsUsage words →
+    IfSome held (λ m. A → B → C → D → Completes (Means words (record { held = m; coming = coming })) (record { held = held; coming = coming; told = told }) (record { held = held; coming = coming; told = told }) answer.Usage)
+usage_whole words None coming told A B C D none = tt
+usage_whole words (Some m) coming told A B C D none = λ a b c d.
+    let given : Given = record { held = m; coming = coming } in
+    let world : World = record { held = Some m; coming = coming; told = told } in
+    inr (refused answer.Usage, refusal_whole (Means words given) (AskForSeeds words m) world world answer.Usage ([], inl (none, refl)) refl)

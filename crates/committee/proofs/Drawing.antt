@@ -1,9 +1,9 @@
 -- Seeds taken one after the other.
-use Rattle.std.proofs.Common.{◌≡◌, ℕ, ◌<◌, ◌≤◌, List, [], ◌∷◌, ◌++◌, length, drop, Option, Some, None, IfSome, refl, sym, ap, ◌∙◌, arith, append_assoc, length-append}
+use Rattle.std.proofs.Common.{◌≡◌, ℕ, ◌<◌, ◌≤◌, List, [], ◌∷◌, ◌++◌, length, drop, Option, Some, None, Result, Ok, Err, IfSome, IfErr, refl, sym, ap, ◌∙◌, subst, arith, append_assoc, length-append}
 use Rattle.std.proofs.lemmas.List.{drop_at}
 use Rattle.shelf.specs.Causes.{Takes, HasMore}
 use Rattle.keyroom.specs.Outcome.{AreFirst}
-use Rattle.committee.specs.Answer.{Took}
+use Rattle.committee.specs.Answer.{Took, TookUpTo}
 
 -- these seeds were taken from the front
 abbrev pub Drawn : List (List ℕ) → Option (List (List ℕ)) → Option (List (List ℕ)) → Type 0
@@ -48,3 +48,16 @@ more_at (first ∷ rest) now e some = rw e tt
 pub drawn_has_more : (count : ℕ) (seeds : List (List ℕ)) (from now : Option (List (List ℕ))) → length seeds < count → IfSome from (λ s. count ≤ length s) → Drawn seeds from now → HasMore now
 drawn_has_more count seeds None now lt enough drawn = rw drawn tt
 drawn_has_more count seeds (Some coming) now lt enough drawn = more_at drawn.0 now drawn.2 (omega (arith, lt, enough, ap length drawn.1, length-append seeds drawn.0))
+
+-- so many were taken
+pub drawn_some : (count : ℕ) (seeds : List (List ℕ)) (from now : Option (List (List ℕ))) → length seeds ≤ count → Drawn seeds from now → TookUpTo count from now
+drawn_some count seeds from now le drawn = (length seeds, le, drawn_took (length seeds) seeds from now refl drawn)
+
+-- a call that took none
+pub drawn_still : (seeds : List (List ℕ)) (from mid now : Option (List (List ℕ))) → Drawn seeds from mid → now ≡ mid → Drawn seeds from now
+drawn_still seeds from mid now drawn same = subst (Drawn seeds from) (sym same) drawn
+
+-- what is left, said of a refusal
+pub some_refused : {X E : Type 0} {P : Type 0} (r : Result X E) → P → IfErr r (λ _. P)
+some_refused (Ok x) p = tt
+some_refused (Err e) p = p

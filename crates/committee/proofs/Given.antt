@@ -3,19 +3,19 @@ use Rattle.std.proofs.Common.{◌≡◌, ℕ, zero, suc, ◌+◌, ◌<◌, Bool,
 use Rattle.std.specs.List.{range_with_len, filter}
 use Rattle.std.proofs.lemmas.List.{drop_more}
 use Rattle.algebra61.specs.Field.{Fp}
-use Rattle.committee.specs.Phase.{unless_drilled, each_given}
+use Rattle.committee.specs.Phase.{unless_down, each_given}
 
 module _ {B : Type 0} where
   one_given : (f : ℕ → List Fp → B) (g : ℕ → List Fp) (a : ℕ) (b : Bool) (rest : List (Option (List Fp))) (js : List ℕ) → each_given f (a + 1) rest ≡ map (λ j. f j (g j)) js →
-      each_given f a (unless_drilled b (g a) ∷ rest) ≡ map (λ j. f j (g j)) (cond (not b) (a ∷ js) js)
+      each_given f a (unless_down b (g a) ∷ rest) ≡ map (λ j. f j (g j)) (cond (not b) (a ∷ js) js)
   one_given f g a true rest js e = e
   one_given f g a false rest js e = ap (λ (ys : List B). f a (g a) ∷ ys) e
 
-  -- of the members that aren't drilled
+  -- of the members that aren't down
   pub given_same : (f : ℕ → List Fp → B) (g : ℕ → List Fp) (test : ℕ → Bool) (a n : ℕ) →
-      each_given f a (map (λ j. unless_drilled (test j) (g j)) (range_with_len a n)) ≡ map (λ j. f j (g j)) (filter (λ j. not (test j)) (range_with_len a n))
+      each_given f a (map (λ j. unless_down (test j) (g j)) (range_with_len a n)) ≡ map (λ j. f j (g j)) (filter (λ j. not (test j)) (range_with_len a n))
   given_same f g test a zero = refl
-  given_same f g test a (suc n) = one_given f g a (test a) (map (λ j. unless_drilled (test j) (g j)) (range_with_len (a + 1) n)) (filter (λ j. not (test j)) (range_with_len (a + 1) n)) (given_same f g test (a + 1) n)
+  given_same f g test a (suc n) = one_given f g a (test a) (map (λ j. unless_down (test j) (g j)) (range_with_len (a + 1) n)) (filter (λ j. not (test j)) (range_with_len (a + 1) n)) (given_same f g test (a + 1) n)
 
 module _ {A B : Type 0} where
   first_given : (f : ℕ → A → B) (index : ℕ) (x : Option A) (rest : List (Option A)) → each_given f index (x ∷ rest) ≡ each_given f index (x ∷ []) ++ each_given f (index + 1) rest

@@ -1,4 +1,6 @@
+pub mod Links
 pub mod Doing
+pub mod Asked
 pub mod OneMeaning
 pub mod Drawing
 pub mod Pushing

@@ -1,5 +1,5 @@
 -- What is held after changes.
-use Rattle.std.proofs.Common.{◌≡◌, inl, inr, ◌⊎◌, ℕ, Bool, true, false, cond, List, [], ◌∷◌, ◌++◌, ◌+◌, ◌<◌, ◌≤◌, ◌≢◌, suc, zero, eqb, arith, map, refl, sym, ap, ◌∙◌, Option, Some, None}
+use Rattle.std.proofs.Common.{◌≡◌, inl, inr, ◌⊎◌, ℕ, Bool, true, false, cond, List, [], ◌∷◌, ◌++◌, ◌+◌, ◌<◌, ◌≤◌, ◌≢◌, suc, zero, eqb, arith, map, take, refl, sym, ap, ◌∙◌, Option, Some, None}
 use Rattle.std.specs.List.{range_with_len, filter}
 use Rattle.std.proofs.lemmas.Bool.{eqb-true, eq-eqb}
 use Rattle.std.specs.Ordering.{nat_cmp, eq_by_cmp}
@@ -8,6 +8,7 @@ use Rattle.std.specs.FinMap.{get, insert, remove, get-insert, get-remove}
 use Rattle.std.proofs.lemmas.Map.Text.{is_eq-slice_cmp}
 use Rattle.std.proofs.lemmas.Slice.Eq.{bytes_eq-Decides}
 use Rattle.shelf.specs.Held.{Held, Change, Put, Remove, after, after_change}
+use Rattle.committee.specs.Agreement.{Among}
 
 either : (b : Bool) → (b ≡ true) ⊎ (b ≡ false)
 either true = inl refl
@@ -16,15 +17,14 @@ either false = inr refl
 true_not_false : true ≡ false → ⊥
 true_not_false e = cc
 
--- x is one of the items
-abbrev pub Among : {A : Type 0} → A → List A → Type 0
-Among x [] = ⊥
-Among x (y ∷ ys) = (y ≡ x) ⊎ Among x ys
-
 pub among_append : {A : Type 0} (x : A) (xs ys : List A) → Among x (xs ++ ys) → Among x xs ⊎ Among x ys
 among_append x [] ys h = inr h
 among_append x (y ∷ xs) ys (inl e) = inl (inl e)
 among_append x (y ∷ xs) ys (inr h) = elim (among_append x xs ys h) [ inl a ↦ inl (inr a) | inr b ↦ inr b ]
+
+pub among_behind : {A : Type 0} (x : A) (xs ys : List A) → Among x ys → Among x (xs ++ ys)
+among_behind x [] ys h = h
+among_behind x (y ∷ xs) ys h = inr (among_behind x xs ys h)
 
 pub among_map : {A B : Type 0} (f : A → B) (y : B) (xs : List A) → Among y (map f xs) → (x : A) × Among x xs × (f x ≡ y)
 among_map f y [] h = absurd h
@@ -41,6 +41,12 @@ pub among_from_map : {A B : Type 0} (f : A → B) (x : A) (xs : List A) → Amon
 among_from_map f x [] h = absurd h
 among_from_map f x (y ∷ ys) (inl e) = inl (ap f e)
 among_from_map f x (y ∷ ys) (inr h) = inr (among_from_map f x ys h)
+
+pub among_take : {A : Type 0} (x : A) (n : ℕ) (xs : List A) → Among x (take n xs) → Among x xs
+among_take x zero xs h = absurd h
+among_take x (suc n) [] h = absurd h
+among_take x (suc n) (y ∷ ys) (inl e) = inl e
+among_take x (suc n) (y ∷ ys) (inr h) = inr (among_take x n ys h)
 
 pub after_append : (xs ys : List Change) (held : Held) → after (xs ++ ys) held ≡ after ys (after xs held)
 after_append [] ys held = refl

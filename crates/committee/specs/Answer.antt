@@ -4,10 +4,11 @@ use Rattle.std.specs.Option.{option_map}
 use Rattle.shelf.specs.Held.{Held}
 use Rattle.keyroom.specs.declared.plan.Plan.{Plan}
 use Rattle.keyroom.specs.declared.status.Status.{Status}
-use Rattle.keyroom.specs.declared.status.Status.TheVariants.{Done, ShelfFault, EntropyFault, SinkFault, OutOfMemory}
-use Rattle.keyroom.specs.Outcome.{Outcome, refused, Refuses}
+use Rattle.keyroom.specs.declared.status.Status.TheVariants as answer
+use Rattle.keyroom.specs.Causes.{Cause, Done, Refusal, Shelf, Entropy, Sink, Memory, cause_of}
+use Rattle.keyroom.specs.Outcome.{Outcome, refused}
 use Rattle.keyroom.specs.Changes.{outcome_of}
-use Rattle.keyroom.specs.Answer.{Carries}
+use Rattle.keyroom.specs.Answer.{IsChanged, IsTold, Carries}
 
 -- the outside: what the shelf holds, the seeds to come, and what the sink was given, where they are told
 pub record World : Type 0 where
@@ -20,16 +21,33 @@ pub record Took (taken : ℕ) (coming comes : Option (List (List ℕ))) : Type 0
   pub there : IfSome coming (λ seeds. taken ≤ length seeds)
   pub gone : comes ≡ option_map (drop taken) coming
 
--- what a plan, or a refusal to make one, must be, with the seeds to come before and after it
-abbrev pub PlansWith : (Outcome → Type 0) → Option (List (List ℕ)) → Option (List (List ℕ)) → Result Plan Status → Type 0
-PlansWith means coming comes (Ok plan) = (taken : ℕ) × means (outcome_of taken plan) × Took taken coming comes
-PlansWith means coming comes (Err status) = Refuses status (λ s. means (refused s) × (comes ≡ coming))
+-- at most so many
+abbrev pub TookUpTo : ℕ → Option (List (List ℕ)) → Option (List (List ℕ)) → Type 0
+TookUpTo count coming comes = (taken : ℕ) × (taken ≤ count) × Took taken coming comes
 
--- an outcome that is Done was carried out, as far as the status says
-pub record CarriedOut (means : Outcome → Type 0) (before after : World) (status : Status) (outcome : Outcome) : Type 0 where
+-- at most as many as are asked for, where `asks` says of which numbers that is so
+abbrev pub TookAsked : (ℕ → Type 0) → Option (List (List ℕ)) → Option (List (List ℕ)) → Type 0
+TookAsked asks coming comes = (count : ℕ) × asks count × TookUpTo count coming comes
+
+-- What a refusal to make a plan leaves of the seeds to come, by its cause: a refusal, which is the one that is meant, and
+-- a fault of the shelf take none; a fault of the entropy and want of memory may come when some were taken.
+abbrev pub StopsBefore : (Outcome → Type 0) → (ℕ → Type 0) → Option (List (List ℕ)) → Option (List (List ℕ)) → Status → Cause → Type 0
+StopsBefore means asks coming comes status Refusal = means (refused status) × (comes ≡ coming)
+StopsBefore means asks coming comes status Shelf = comes ≡ coming
+StopsBefore means asks coming comes status Entropy = TookAsked asks coming comes
+StopsBefore means asks coming comes status Memory = (comes ≡ coming) ⊎ TookAsked asks coming comes
+StopsBefore means asks coming comes status cause = ⊥
+
+-- what a plan, or a refusal to make one, must be, with the seeds to come before and after it
+abbrev pub PlansWith : (Outcome → Type 0) → (ℕ → Type 0) → Option (List (List ℕ)) → Option (List (List ℕ)) → Result Plan Status → Type 0
+PlansWith means asks coming comes (Ok plan) = (taken : ℕ) × means (outcome_of taken plan) × Took taken coming comes
+PlansWith means asks coming comes (Err status) = StopsBefore means asks coming comes status (cause_of status)
+
+-- an outcome that is Done was carried out, as far as the cause of the answer says
+pub record CarriedOut (means : Outcome → Type 0) (before after : World) (cause : Cause) (outcome : Outcome) : Type 0 where
   pub meant : means outcome
-  pub planned : outcome.status ≡ Done
-  pub carried : Carries outcome.changes outcome.text before.held after.held before.told after.told status
+  pub planned : outcome.status ≡ answer.Done
+  pub carried : Carries outcome.changes outcome.text before.held after.held before.told after.told cause
   pub took : Took outcome.taken before.coming after.coming
 
 -- the shelf holds what it held and the sink was given nothing
@@ -37,20 +55,38 @@ pub record IsUntouched (before after : World) : Type 0 where
   pub held : after.held ≡ before.held
   pub told : after.told ≡ before.told
 
--- What was done of what the words mean, where `asks` says whether they come to the step that takes seeds. A refusal does
--- nothing and takes no seed, and each other status carries out an outcome that is Done, as far as `Carries` says. A fault
--- of the shelf and want of memory may also come before anything is done. A fault of the entropy comes only then, and only
--- where seeds are asked for.
-abbrev pub Does : (Outcome → Type 0) → Type 0 → World → World → Status → Type 0
-Does means asks before after Done = (o : Outcome) × CarriedOut means before after Done o
-Does means asks before after SinkFault = (o : Outcome) × CarriedOut means before after SinkFault o
-Does means asks before after ShelfFault = IsUntouched before after ⊎ ((o : Outcome) × CarriedOut means before after ShelfFault o)
-Does means asks before after OutOfMemory = IsUntouched before after ⊎ ((o : Outcome) × CarriedOut means before after OutOfMemory o)
-Does means asks before after EntropyFault = asks × IsUntouched before after
-Does means asks before after status = means (refused status) × (after ≡ before)
+-- What was done of what the words mean, by the cause of the answer, where `asks` says of which numbers of seeds they come
+-- to the step that takes them. A refusal does nothing and takes no seed. Done and each fault of the outside but the
+-- entropy's carry out an outcome that is Done, as far as `Carries` says. A fault of the shelf and want of memory may also
+-- come before anything is done. A fault of the entropy comes only then, and only where seeds are asked for. Before
+-- anything is done at most the seeds that are asked for were taken, from the front.
+abbrev pub DoesBy : (Outcome → Type 0) → (ℕ → Type 0) → World → World → Status → Cause → Type 0
+DoesBy means asks before after status Done = (o : Outcome) × CarriedOut means before after Done o
+DoesBy means asks before after status Refusal = means (refused status) × (after ≡ before)
+DoesBy means asks before after status Shelf = (after ≡ before) ⊎ ((o : Outcome) × CarriedOut means before after Shelf o)
+DoesBy means asks before after status Entropy = IsUntouched before after × TookAsked asks before.coming after.coming
+DoesBy means asks before after status Sink = (o : Outcome) × CarriedOut means before after Sink o
+DoesBy means asks before after status Memory =
+    (IsUntouched before after × ((after.coming ≡ before.coming) ⊎ TookAsked asks before.coming after.coming))
+    ⊎ ((o : Outcome) × CarriedOut means before after Memory o)
 
--- only Done and a fault of the sink may have written something
-abbrev pub IsQuiet : Option (List ℕ) → Option (List ℕ) → Status → Type 0
-IsQuiet told tells Done = Unit {0}
-IsQuiet told tells SinkFault = Unit {0}
-IsQuiet told tells status = tells ≡ told
+abbrev pub Does : (Outcome → Type 0) → (ℕ → Type 0) → World → World → Status → Type 0
+Does means asks before after status = DoesBy means asks before after status (cause_of status)
+
+-- an outcome was carried out whole, and is what is answered
+pub record IsWhole (means : Outcome → Type 0) (before after : World) (status : Status) (outcome : Outcome) : Type 0 where
+  pub meant : means outcome
+  pub answered : outcome.status ≡ status
+  pub held : IsChanged outcome.changes before.held after.held
+  pub told : IsTold outcome.text before.told after.told
+  pub took : Took outcome.taken before.coming after.coming
+
+-- what the words mean was done whole, unless memory ran out
+abbrev pub Completes : (Outcome → Type 0) → World → World → Status → Type 0
+Completes means before after status = (cause_of status ≡ Memory) ⊎ ((outcome : Outcome) × IsWhole means before after status outcome)
+
+-- Only Done and a fault of the sink may have written something, and they have only appended.
+abbrev pub Writes : Option (List ℕ) → Option (List ℕ) → Cause → Type 0
+Writes told tells Done = (text : List ℕ) × IsTold text told tells
+Writes told tells Sink = (text : List ℕ) × IsTold text told tells
+Writes told tells cause = tells ≡ told

@@ -1,17 +1,42 @@
--- What a command may refuse with before it changes anything.
-use Rattle.std.specs.Prelude.{ℕ}
+-- How often the outside has failed, and what a command may refuse with before it changes anything.
+use Rattle.std.specs.Prelude.{◌≡◌, ◌≢◌, ◌≤◌, ℕ}
 use Rattle.shelf.specs.Causes.{Rose}
 use Rattle.keyroom.specs.declared.status.Status.{Status}
-use Rattle.keyroom.specs.declared.status.Status.TheVariants.{EntropyFault, OutOfMemory}
-use Rattle.keyroom.specs.Outcome.{IsFromPlan}
+use Rattle.keyroom.specs.declared.status.Status.TheVariants.{Usage}
+use Rattle.keyroom.specs.Causes.{Cause, Done, Shelf, Entropy, Sink, Memory, cause_of}
 
--- a command that may take seeds: the first two counts are the shelf's, the others the entropy's
-abbrev pub IsFromSeededPlan : ℕ → ℕ → ℕ → ℕ → Status → Type 0
-IsFromSeededPlan before now first last EntropyFault = Rose first last
-IsFromSeededPlan before now first last status = IsFromPlan before now status
+-- how often each object has failed
+pub record Counts : Type 0 where
+  pub shelf : ℕ
+  pub entropy : ℕ
+  pub sink : ℕ
 
--- a step that only takes seeds
-abbrev pub IsFromEntropy : ℕ → ℕ → Status → Type 0
-IsFromEntropy first last EntropyFault = Rose first last
-IsFromEntropy first last OutOfMemory = Unit {0}
-IsFromEntropy first last status = ⊥
+-- the same where no sink is at hand
+abbrev pub before_text : ℕ → ℕ → Counts
+before_text shelf entropy = record { shelf = shelf; entropy = entropy; sink = 0 }
+
+-- no count fell, and a fault was answered only where its count rose
+pub record IsCounted (before now : Counts) (cause : Cause) : Type 0 where
+  pub shelf_later : before.shelf ≤ now.shelf
+  pub entropy_later : before.entropy ≤ now.entropy
+  pub sink_later : before.sink ≤ now.sink
+  pub shelf : cause ≡ Shelf → Rose before.shelf now.shelf
+  pub entropy : cause ≡ Entropy → Rose before.entropy now.entropy
+  pub sink : cause ≡ Sink → Rose before.sink now.sink
+
+-- a refusal to make a plan, for what the words and the files say, for a fault of the outside, or for want of memory
+pub record IsFromCommand (before now : Counts) (status : Status) : Type 0 where
+  pub counted : IsCounted before now (cause_of status)
+  pub undone : cause_of status ≢ Done
+  pub read : status ≢ Usage
+
+-- a call that the entropy may fail, or want of memory
+abbrev pub IsOfEntropy : Cause → Type 0
+IsOfEntropy Entropy = Unit {0}
+IsOfEntropy Memory = Unit {0}
+IsOfEntropy cause = ⊥
+
+-- what a step that only takes seeds may refuse with
+pub record IsFromEntropy (before now : ℕ) (status : Status) : Type 0 where
+  pub entropy : cause_of status ≡ Entropy → Rose before now
+  pub by : IsOfEntropy (cause_of status)

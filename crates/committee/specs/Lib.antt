@@ -1,3 +1,4 @@
+pub mod Links
 pub mod Create
 pub mod Phase
 pub mod Meaning

@@ -1,63 +1,75 @@
 -- The meaning of a command: one equation for each.
-use Rattle.std.specs.Prelude.{◌≡◌, ◌⊎◌, ◌≤◌, ℕ, List, length, Option, IfSome, Ok}
+use Rattle.std.specs.Prelude.{◌≡◌, ◌⊎◌, ◌≤◌, ℕ, List, [], length, get_or, Option, Some, None, IfSome, Ok}
 use Rattle.shelf.specs.Held.{Held}
-use Rattle.keyroom.specs.Words.{Command, Create, Recover, Check, Seal, Open, ReadsAs, IsUsage}
+use Rattle.drillbook.specs.declared.order.Order.{Order}
+use Rattle.talk.specs.Shape.{create_shape}
 use Rattle.keyroom.specs.declared.status.Status.TheVariants.{Usage}
+use Rattle.keyroom.specs.declared.document.Direction.TheVariants.{Sealing, Opening}
+use Rattle.keyroom.specs.Words.{Command, Create, Recover, Check, Seal, Open, ReadsAs, IsUsage}
 use Rattle.keyroom.specs.Outcome.{Outcome, refused}
 use Rattle.keyroom.specs.Recover.{MeansRecover}
 use Rattle.keyroom.specs.Check.{MeansCheck}
-use Rattle.keyroom.specs.Seal.{MeansSeal}
-use Rattle.keyroom.specs.Open.{MeansOpen}
-use Rattle.drillbook.specs.declared.order.Order.{Order}
-use Rattle.jointkey.specs.Create.{create_shape}
-use Rattle.keyroom.specs.Names.{now_name}
-use Rattle.keyroom.specs.Steps.{free_of}
-use Rattle.committee.specs.Create.{drill_of, MeansCreate}
+use Rattle.keyroom.specs.Document.{MeansDocument}
+use Rattle.committee.specs.Create.{create_asked, MeansCreate}
 
 -- what a command is given: what the shelf holds, and the seeds to come, where they are told
 pub record Given : Type 0 where
   pub held : Held
   pub coming : Option (List (List ℕ))
 
--- what a command means under the masks of its phase's rounds; a command without a phase is the same under all masks
-abbrev pub MeansCommand : Command → Given → List ℕ → Outcome → Type 0
-MeansCommand (Create name n t drill) given masks = MeansCreate name n t drill given.held given.coming masks
+-- the masks of a phase's rounds, by the masks of all phases; the first has the number 0
+abbrev pub of_phase : List (List ℕ) → ℕ → List ℕ
+of_phase masks phase = get_or masks phase []
+
+-- What a command means under the masks of the rounds of its phases; a command without a phase is the same under all masks.
+abbrev pub MeansCommand : Command → Given → List (List ℕ) → Outcome → Type 0
+MeansCommand (Create name n t drill) given masks = MeansCreate name n t drill given.held given.coming (of_phase masks 0)
 MeansCommand (Recover name) given masks = MeansRecover name given.held
 MeansCommand (Check name) given masks = MeansCheck name given.held
-MeansCommand (Seal name doc target) given masks = MeansSeal name doc target given.held
-MeansCommand (Open name source target) given masks = MeansOpen name source target given.held
+MeansCommand (Seal name doc target) given masks = MeansDocument Sealing name doc target given.held
+MeansCommand (Open name source target) given masks = MeansDocument Opening name source target given.held
+
+-- it means so under some masks
+abbrev pub MeansSome : Command → Given → Outcome → Type 0
+MeansSome command given outcome = (masks : List (List ℕ)) × MeansCommand command given masks outcome
 
 -- what the words mean under masks: no command is Usage, and a command is what it means
-abbrev pub MeansUnder : List ℕ → List (List ℕ) → Given → Outcome → Type 0
+abbrev pub MeansUnder : List (List ℕ) → List (List ℕ) → Given → Outcome → Type 0
 MeansUnder masks words given outcome =
     (IsUsage words × (outcome ≡ refused Usage))
     ⊎ ((command : Command) × ReadsAs words command × MeansCommand command given masks outcome)
 
 -- what the words mean: there are masks under which they mean it. The text of a phase prints them
 abbrev pub Means : List (List ℕ) → Given → Outcome → Type 0
-Means words given outcome = (masks : List ℕ) × MeansUnder masks words given outcome
+Means words given outcome = (masks : List (List ℕ)) × MeansUnder masks words given outcome
 
--- a command comes to the step that takes seeds: a create whose now file isn't held, and whose drill, if one is named, is
--- there and is read
-abbrev pub TakesSeeds : Command → Held → Type 0
-TakesSeeds (Create name n t drill) held = (free_of (now_name name) held ≡ Ok tt) × (orders : List Order) × (drill_of (create_shape n t) drill held ≡ Ok orders)
-TakesSeeds (Recover name) held = ⊥
-TakesSeeds (Check name) held = ⊥
-TakesSeeds (Seal name doc target) held = ⊥
-TakesSeeds (Open name source target) held = ⊥
+-- A command comes to the step that takes seeds, and takes so many there: a create whose now file isn't held, and whose
+-- drill, if one is named, is there and is read, takes one for each member.
+abbrev pub TakesSeeds : Command → Held → ℕ → Type 0
+TakesSeeds (Create name n t drill) held count = (count ≡ n) × ((orders : List Order) × (create_asked name (create_shape n t) drill held ≡ Ok orders))
+TakesSeeds (Recover name) held count = ⊥
+TakesSeeds (Check name) held count = ⊥
+TakesSeeds (Seal name doc target) held count = ⊥
+TakesSeeds (Open name source target) held count = ⊥
 
 -- the words are such a command
-abbrev pub AskForSeeds : List (List ℕ) → Held → Type 0
-AskForSeeds words held = (command : Command) × ReadsAs words command × TakesSeeds command held
+abbrev pub AskForSeeds : List (List ℕ) → Held → ℕ → Type 0
+AskForSeeds words held count = (command : Command) × ReadsAs words command × TakesSeeds command held count
 
--- how many seeds a command may take
-abbrev pub seeds_named : Command → ℕ
-seeds_named (Create name n t drill) = n
-seeds_named (Recover name) = 0
-seeds_named (Check name) = 0
-seeds_named (Seal name doc target) = 0
-seeds_named (Open name source target) = 0
+-- how many seeds a command may take at most, whatever the shelf holds
+abbrev pub most_seeds : Command → ℕ
+most_seeds (Create name n t drill) = n
+most_seeds (Recover name) = 0
+most_seeds (Check name) = 0
+most_seeds (Seal name doc target) = 0
+most_seeds (Open name source target) = 0
 
--- the seeds to come are enough for the command that the words are, where they are told
-abbrev pub AreEnough : List (List ℕ) → Option (List (List ℕ)) → Type 0
-AreEnough words coming = (command : Command) → ReadsAs words command → IfSome coming (λ seeds. seeds_named command ≤ length seeds)
+-- The seeds to come, where they are told, are enough for a command: for what it comes to take over what the shelf holds,
+-- or for whatever it may take, where the shelf doesn't tell.
+abbrev pub AreEnoughFor : Command → Option Held → Option (List (List ℕ)) → Type 0
+AreEnoughFor command None coming = IfSome coming (λ seeds. most_seeds command ≤ length seeds)
+AreEnoughFor command (Some held) coming = (count : ℕ) → TakesSeeds command held count → IfSome coming (λ seeds. count ≤ length seeds)
+
+-- they are enough for the command that the words are
+abbrev pub AreEnough : List (List ℕ) → Option Held → Option (List (List ℕ)) → Type 0
+AreEnough words held coming = (command : Command) → ReadsAs words command → AreEnoughFor command held coming

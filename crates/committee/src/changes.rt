@@ -8,8 +8,9 @@ ghost use Rattle.keyroom.specs.Changes.{changes_of};
 ghost use Rattle.committee.specs.Create.{removal};
 ghost use Rattle.committee.specs.Phase.{share_with, put_with, puts_of};
 
-use field61::{Fe, OutOfMemory};
+use field61::Fe;
 use keyroom::{Change, now_name, share_name};
+use lists::OutOfMemory;
 use sharefile::{KeyName, NowFile, ShareFile, write_now, write_share};
 use std::alloc::Global;
 
@@ -55,6 +56,7 @@ fn share_with(now: &NowFile, index: u32, lanes: &[Fe; 5]) -> ShareFile
         index,
         period: now.period,
         lanes: *lanes,
+        committee: now.committee(),
     }
 }
 

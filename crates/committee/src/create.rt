@@ -1,30 +1,36 @@
 //! The command `create NAME N T`, with or without a drill.
-ghost use Rattle.std.specs.Prelude.{◌≡◌, ◌≤◌, ℕ, ◌*◌, List, length, string_bytes, IsTrue, Err, IfOk, IfSome, IfErr, Option};
+ghost use Rattle.std.specs.Prelude.{◌≡◌, ◌≤◌, ℕ, ◌*◌, List, length, string_bytes, IsTrue, IfOk, IfSome, IfErr, Option};
 ghost use Rattle.shelf.specs.Causes.{OnlyReads};
 ghost use Rattle.sharefile.specs.Names.{is_key_name};
-ghost use Rattle.sharefile.specs.Files.{is_size, is_bound};
-ghost use Rattle.drillbook.specs.Orders.{AllLawful};
+ghost use Rattle.sizes.specs.Committees.{is_size, is_bound};
+ghost use Rattle.drillbook.specs.Orders.{names, AllLawful};
 ghost use Rattle.drillbook.specs.Text.{named_among};
+ghost use Rattle.keyroom.specs.Causes.{IsFromPlan};
+ghost use Rattle.keyroom.specs.Outcome.{Outcome, AnswersStep};
 ghost use Rattle.keyroom.specs.Changes.{changes_of, outcome_of};
 ghost use Rattle.keyroom.specs.Commands.{text_of};
 ghost use Rattle.keyroom.specs.Texts.{create_text};
-ghost use Rattle.committee.specs.Answer.{PlansWith};
-ghost use Rattle.committee.specs.Causes.{IsFromSeededPlan};
-ghost use Rattle.jointkey.specs.Create.{create_shape};
-ghost use Rattle.committee.specs.Create.{create_play, AreMasks, create_outcome, MeansCreate};
-ghost use Rattle.committee.specs.Meaning.{TakesSeeds};
 ghost use Rattle.keyroom.specs.Words.{Create};
+ghost use Rattle.talk.specs.Shape.{create_shape};
+ghost use Rattle.committee.specs.Answer.{PlansWith};
+ghost use Rattle.committee.specs.Causes.{before_text, IsFromCommand, IsFromEntropy};
+ghost use Rattle.committee.specs.Create.{create_asked, dealt_by, play_created, AreMasks, create_outcome, first_now, Creates};
+ghost use Rattle.committee.specs.Links.{first_link};
+ghost use Rattle.committee.specs.Meaning.{MeansSome, TakesSeeds, AreEnoughFor};
 ghost use Rattle.committee.specs.Phase.{changes_with, indexes_of};
 
 use crate::changes::{push_now, push_removals, push_shares};
 use crate::drill::drill_of;
+use crate::holders::first_now;
 use crate::phase::{Phase, run_create};
 use crate::seeds::seeds_of;
 use drillbook::Drill;
-use field61::{Fe, NumberList, OutOfMemory};
+use field61::{Fe, NumberList};
 use keyroom::{Change, Plan, Status, check_free, create_text, now_name};
+use lists::OutOfMemory;
 use sharefile::{KeyName, NowFile};
 use shelf::{Entropy, Shelf};
+use sizes::{Committee, LANES};
 use std::alloc::Global;
 use talk::Setting;
 
@@ -63,8 +69,7 @@ fn indexes_of(alloc: Global, shares: &[Option<[Fe; 5]>]) -> Result<NumberList, O
 
 /// What is printed of a create.
 fn created_text(alloc: Global, now: &NowFile, phase: &Phase) -> Result<String, OutOfMemory>
-    requires masks { length phase.now.masks ≤ 6 }
-    requires members { length phase.now.shares.items ≤ 15 }
+    requires { length phase.now.shares.items ≤ 15 }
     ensures { IfOk result (λ s. string_bytes s ≡ create_text now.now phase.now.masks phase.now.accepted (5 * now.now.n) (indexes_of 1 phase.now.shares.items)) }
 {
     let indexes = indexes_of(alloc, &phase.shares)?;
@@ -73,7 +78,7 @@ fn created_text(alloc: Global, now: &NowFile, phase: &Phase) -> Result<String, O
         now,
         &phase.masks,
         phase.accepted,
-        5 * now.n,
+        LANES * now.n,
         &indexes,
     )
 }
@@ -81,20 +86,67 @@ fn created_text(alloc: Global, now: &NowFile, phase: &Phase) -> Result<String, O
 /// The plan, with the drill and the seeds known.
 fn plan_of(
     alloc: Global,
-    now: &NowFile,
+    name: &KeyName,
+    committee: Committee,
     drill: &Drill,
     seeds: &[[u8; 32]],
 ) -> Result<Plan, OutOfMemory>
-    requires lines { AllLawful (create_shape now.now.n now.now.t) drill.now }
-    requires few { named_among drill.now 0 now.now.n ≤ now.now.t }
-    requires seeds { length seeds.now ≡ now.now.n }
-    ensures { IfOk result (λ plan. (masks : List ℕ) × AreMasks (create_shape now.now.n now.now.t) drill.now seeds.now masks
-        × (outcome_of now.now.n plan ≡ create_outcome now.now drill.now masks (create_play (create_shape now.now.n now.now.t) drill.now seeds.now masks))) }
+    requires name { IsTrue (is_key_name name.now) }
+    requires size { IsTrue (is_size committee.members) }
+    requires bound { IsTrue (is_bound committee.members committee.bound) }
+    requires lines { AllLawful (create_shape committee.members committee.bound) drill.now }
+    requires few { named_among drill.now 0 committee.members ≤ committee.bound }
+    requires seeds { length seeds.now ≡ committee.members }
+    ensures { IfOk result (λ plan. (masks : List ℕ) × AreMasks (create_shape committee.members committee.bound) drill.now (dealt_by committee.bound seeds.now) masks
+        × (outcome_of committee.members plan ≡ create_outcome (first_now name.now committee.members committee.bound (first_link name.now committee.members committee.bound (names drill.now))) masks (play_created committee.members committee.bound drill.now seeds.now masks))) }
 {
-    let phase = run_create(alloc, now.n, now.t, drill, seeds)?;
-    let changes = changes_with(alloc, now, &phase.shares)?;
-    let text = created_text(alloc, now, &phase)?;
+    let now = first_now(name, committee, drill);
+    let phase = run_create(alloc, committee, drill, seeds)?;
+    let changes = changes_with(alloc, &now, &phase.shares)?;
+    let text = created_text(alloc, &now, &phase)?;
     Ok(Plan { changes, text })
+}
+
+/// The drill of a create, where the name of the now file is free. It refuses with `Exists` where that is held, and as
+/// `drill_of` does.
+fn asked_drill<H: Shelf>(
+    alloc: Global,
+    name: &KeyName,
+    setting: &Setting,
+    drill: Option<&str>,
+    shelf: &mut H,
+) -> Result<Drill, Status>
+    ensures reads { OnlyReads H.held H.fault_count H.calm shelf.old shelf.new }
+    ensures gives { IfSome (H.held shelf.old) (λ m. AnswersStep (λ d. d) result (create_asked name.now setting.now (text_of drill.entry) m)) }
+    ensures lawful { IfOk result (λ d. AllLawful setting.now d) }
+    ensures few { IfOk result (λ d. named_among d setting.now.shift setting.now.receivers ≤ setting.now.bound) }
+    ensures cause { IfErr result (IsFromPlan (H.fault_count shelf.old) (H.fault_count shelf.new)) }
+{
+    let file = now_name(alloc, name)?;
+    check_free(alloc, file.as_str(), shelf)?;
+    drill_of(alloc, drill, setting, shelf)
+}
+
+/// The plan of a create, with the drill known: it takes a seed for each member, and runs the phase.
+fn plan_with<E: Entropy>(
+    alloc: Global,
+    name: &KeyName,
+    committee: Committee,
+    drill: &Drill,
+    entropy: &mut E,
+) -> Result<Plan, Status>
+    requires name { IsTrue (is_key_name name.now) }
+    requires size { IsTrue (is_size committee.members) }
+    requires bound { IsTrue (is_bound committee.members committee.bound) }
+    requires lines { AllLawful (create_shape committee.members committee.bound) drill.now }
+    requires few { named_among drill.now 0 committee.members ≤ committee.bound }
+    ensures meaning { PlansWith (λ o. (masks : List ℕ) × Creates name.now committee.members committee.bound (E.coming entropy.old) masks drill.now o) (λ count. count ≡ committee.members) (E.coming entropy.old) (E.coming entropy.new) result }
+    ensures later { E.fault_count entropy.old ≤ E.fault_count entropy.new }
+    ensures cause { IfErr result (IsFromEntropy (E.fault_count entropy.old) (E.fault_count entropy.new)) }
+    ensures calm { E.calm entropy.old → IfSome (E.coming entropy.old) (λ seeds. committee.members ≤ length seeds) → E.calm entropy.new }
+{
+    let seeds = seeds_of(alloc, committee.members, entropy)?;
+    Ok(plan_of(alloc, name, committee, drill, &seeds)?)
 }
 
 /// What `create NAME N T` will do, under the drill in the file that is named, if one is. It refuses with `Exists` where
@@ -103,32 +155,23 @@ fn plan_of(
 pub(crate) fn plan_create<H: Shelf, E: Entropy>(
     alloc: Global,
     name: &KeyName,
-    n: u32,
-    t: u32,
+    committee: Committee,
     drill: Option<&str>,
     shelf: &mut H,
     entropy: &mut E,
 ) -> Result<Plan, Status>
     requires name { IsTrue (is_key_name name.now) }
-    requires size { IsTrue (is_size n) }
-    requires bound { IsTrue (is_bound n t) }
+    requires size { IsTrue (is_size committee.members) }
+    requires bound { IsTrue (is_bound committee.members committee.bound) }
     ensures reads { OnlyReads H.held H.fault_count H.calm shelf.old shelf.new }
-    ensures meaning { IfSome (H.held shelf.old) (λ m. PlansWith (λ o. (masks : List ℕ) × MeansCreate name.now n t (text_of drill.entry) m (E.coming entropy.old) masks o) (E.coming entropy.old) (E.coming entropy.new) result) }
-    ensures asks { IfSome (H.held shelf.old) (λ m. result ≡ Err Status.EntropyFault → TakesSeeds (Create name.now n t (text_of drill.entry)) m) }
+    ensures meaning { IfSome (H.held shelf.old) (λ m.
+        PlansWith (MeansSome (Create name.now committee.members committee.bound (text_of drill.entry)) (record { held = m; coming = E.coming entropy.old }))
+        (TakesSeeds (Create name.now committee.members committee.bound (text_of drill.entry)) m) (E.coming entropy.old) (E.coming entropy.new) result) }
     ensures later { E.fault_count entropy.old ≤ E.fault_count entropy.new }
-    ensures cause { IfErr result (IsFromSeededPlan (H.fault_count shelf.old) (H.fault_count shelf.new) (E.fault_count entropy.old) (E.fault_count entropy.new)) }
-    ensures calm { E.calm entropy.old → IfSome (E.coming entropy.old) (λ seeds. n ≤ length seeds) → E.calm entropy.new }
+    ensures cause { IfErr result (IsFromCommand (before_text (H.fault_count shelf.old) (E.fault_count entropy.old)) (before_text (H.fault_count shelf.new) (E.fault_count entropy.new))) }
+    ensures calm { E.calm entropy.old → AreEnoughFor (Create name.now committee.members committee.bound (text_of drill.entry)) (H.held shelf.old) (E.coming entropy.old) → E.calm entropy.new }
 {
-    let file = now_name(alloc, name)?;
-    check_free(alloc, file.as_str(), shelf)?;
-    let drill = drill_of(alloc, drill, &Setting::create(n, t), shelf)?;
-    let seeds = seeds_of(alloc, n, entropy)?;
-    let now = NowFile {
-        name: *name,
-        n,
-        t,
-        period: 1,
-        next_number: 0,
-    };
-    Ok(plan_of(alloc, &now, &drill, &seeds)?)
+    let setting = Setting::create(committee.members, committee.bound);
+    let drill = asked_drill(alloc, name, &setting, drill, shelf)?;
+    plan_with(alloc, name, committee, &drill, entropy)
 }

@@ -3,7 +3,8 @@ ghost use Rattle.std.specs.Prelude.{◌≡◌, ◌≤◌, ℕ, IfSome, IfOk, IfE
 ghost use Rattle.shelf.specs.Causes.{OnlyReads};
 ghost use Rattle.drillbook.specs.Orders.{AllLawful};
 ghost use Rattle.drillbook.specs.Text.{drill_at, named_among};
-ghost use Rattle.keyroom.specs.Outcome.{Gives, IsFromPlan};
+ghost use Rattle.keyroom.specs.Causes.{IsFromPlan};
+ghost use Rattle.keyroom.specs.Outcome.{AnswersStep};
 ghost use Rattle.keyroom.specs.Commands.{text_of};
 ghost use Rattle.committee.specs.Create.{drill_read, drill_of};
 
@@ -15,7 +16,7 @@ use talk::Setting;
 
 /// The drill that a text is.
 fn drill_from(alloc: Global, text: &[u8], setting: &Setting) -> Result<Drill, Status>
-    ensures gives { Gives (λ d. d) result (drill_read (drill_at setting.now text.now)) }
+    ensures gives { AnswersStep (λ d. d) result (drill_read (drill_at setting.now text.now)) }
     ensures lawful { IfOk result (λ d. AllLawful setting.now d) }
     ensures few { IfOk result (λ d. named_among d setting.now.shift setting.now.receivers ≤ setting.now.bound) }
     ensures cause { IfErr result (λ s. (before now : ℕ) → IsFromPlan before now s) }
@@ -36,7 +37,7 @@ pub(crate) fn drill_of<H: Shelf>(
     shelf: &mut H,
 ) -> Result<Drill, Status>
     ensures reads { OnlyReads H.held H.fault_count H.calm shelf.old shelf.new }
-    ensures gives { IfSome (H.held shelf.old) (λ m. Gives (λ d. d) result (drill_of setting.now (text_of file.entry) m)) }
+    ensures gives { IfSome (H.held shelf.old) (λ m. AnswersStep (λ d. d) result (drill_of setting.now (text_of file.entry) m)) }
     ensures lawful { IfOk result (λ d. AllLawful setting.now d) }
     ensures few { IfOk result (λ d. named_among d setting.now.shift setting.now.receivers ≤ setting.now.bound) }
     ensures cause { IfErr result (IsFromPlan (H.fault_count shelf.old) (H.fault_count shelf.new)) }

@@ -5,14 +5,15 @@
 mod changes;
 mod create;
 mod drill;
+mod holders;
 mod phase;
 mod seeds;
 mod top;
 
 pub use keyroom::{Status, What};
 pub use top::{
-    created_share_files_lie_on_one_polynomial, honest_files_are_recovered, honest_files_open,
-    honest_files_seal, one_meaning, one_status, run,
+    created_share_files_lie_on_one_polynomial, honest_files_are_recovered, honest_files_work,
+    one_meaning, one_status, run,
 };
 
 #[cfg(test)]

@@ -1,18 +1,21 @@
 //! The phase of a create on one thread: the members' minds, drilled, in a synchronous run.
-ghost use Rattle.std.specs.Prelude.{◌≡◌, ◌≤◌, ◌<◌, ◌*◌, length, false, IfOk, IsTrue};
-ghost use Rattle.sharefile.specs.Files.{is_size, is_bound};
-ghost use Rattle.talk.specs.Shape.{IsCommittee};
+ghost use Rattle.std.specs.Prelude.{◌≡◌, ◌≤◌, ◌<◌, ◌*◌, length, false, Some, IfOk, IsTrue};
+ghost use Rattle.sizes.specs.Committees.{is_size, is_bound};
+ghost use Rattle.sizes.specs.Committees.{IsCommittee};
 ghost use Rattle.drillbook.specs.Orders.{names, AllLawful};
 ghost use Rattle.drillbook.specs.Text.{named_among};
-ghost use Rattle.jointkey.specs.Create.{create_shape};
-ghost use Rattle.committee.specs.Create.{drilled_at, drilled_from};
+ghost use Rattle.talk.specs.Shape.{create_shape};
+ghost use Rattle.chance61.specs.Draws.{grids_drawn};
+ghost use Rattle.committee.specs.Create.{dealt_by, drilled_at, drilled_from};
 ghost use Rattle.members.specs.Shares.{IsDone, member_shares};
-ghost use Rattle.committee.specs.Phase.{AllDone, unless_drilled, shares_in, accepted_first, IsPhase};
+ghost use Rattle.committee.specs.Phase.{AllDone, unless_down, shares_in, accepted_first, IsPhase};
 
 use chance61::Chance;
 use drillbook::{Drill, Drilled};
-use field61::{Fe, NumberList, OutOfMemory};
+use field61::{Fe, NumberList};
 use jointkey::Create;
+use lists::OutOfMemory;
+use sizes::Committee;
 use std::alloc::Global;
 use talk::{Setting, drive};
 
@@ -30,37 +33,37 @@ pub(crate) struct Phase {
 /// The mind on a seat, before the first round: it draws its grids from its seed.
 fn mind_of<const N: usize>(
     alloc: Global,
-    t: u32,
+    bound: u32,
     drill: &Drill,
     seat: u32,
     seed: &[u8; 32],
 ) -> Result<Drilled<Create<N>>, OutOfMemory>
-    requires committee { IsCommittee N t }
+    requires committee { IsCommittee N bound }
     requires seat { (1 ≤ seat) × (seat ≤ N) }
-    requires lines { AllLawful (create_shape N t) drill.now }
-    ensures { IfOk result (λ m. m ≡ drilled_at (create_shape N t) drill.now seat seed.now) }
+    requires lines { AllLawful (create_shape N bound) drill.now }
+    ensures { IfOk result (λ m. m ≡ drilled_at (create_shape N bound) drill.now seat (Some (grids_drawn bound seed.now))) }
 {
     let mut chance = Chance::from_seed(*seed);
-    let mind = Create::new(alloc, t, seat, &mut chance)?;
-    Drilled::new(alloc, mind, drill, seat, Setting::create(N as u32, t))
+    let mind = Create::new(alloc, bound, seat, &mut chance)?;
+    Drilled::new(alloc, mind, drill, seat, Setting::create(N as u32, bound))
 }
 
 /// The minds on all seats, before the first round.
 fn minds_of<const N: usize>(
     alloc: Global,
-    t: u32,
+    bound: u32,
     drill: &Drill,
     seeds: &[[u8; 32]],
 ) -> Result<Vec<Drilled<Create<N>>>, OutOfMemory>
-    requires committee { IsCommittee N t }
-    requires lines { AllLawful (create_shape N t) drill.now }
+    requires committee { IsCommittee N bound }
+    requires lines { AllLawful (create_shape N bound) drill.now }
     requires seeds { length seeds.now ≡ N }
-    ensures { IfOk result (λ minds. minds.items ≡ drilled_from (create_shape N t) drill.now 1 seeds.now) }
+    ensures { IfOk result (λ minds. minds.items ≡ drilled_from (create_shape N bound) drill.now 1 (dealt_by bound seeds.now)) }
 {
     let mut minds = Vec::new(alloc);
     let mut seat = 1;
     for seed in seeds {
-        minds.push(mind_of(alloc, t, drill, seat, seed)?)?;
+        minds.push(mind_of(alloc, bound, drill, seat, seed)?)?;
         seat += 1;
     }
     Ok(minds)
@@ -69,7 +72,7 @@ fn minds_of<const N: usize>(
 /// What a member gets: its shares, or nothing where it is drilled.
 fn share_of<const N: usize>(drill: &Drill, seat: u32, mind: &Drilled<Create<N>>) -> Option<[Fe; 5]>
     requires { names drill.now seat ≡ false → IsDone mind.now.inner.stage }
-    ensures { result ≡ unless_drilled (names drill.now seat) (member_shares mind.now.inner) }
+    ensures { result ≡ unless_down (names drill.now seat) (member_shares mind.now.inner) }
 {
     if drill.names(seat) {
         None
@@ -85,8 +88,8 @@ fn shares_of<const N: usize>(
     minds: &[Drilled<Create<N>>],
 ) -> Result<Vec<Option<[Fe; 5]>>, OutOfMemory>
     requires few { length minds.now ≤ 15 }
-    requires done { AllDone drill.now 1 minds.now }
-    ensures { IfOk result (λ shares. shares.items ≡ shares_in drill.now 1 minds.now) }
+    requires done { AllDone (names drill.now) 1 minds.now }
+    ensures { IfOk result (λ shares. shares.items ≡ shares_in (names drill.now) 1 minds.now) }
 {
     let mut shares = Vec::new(alloc);
     let mut seat = 1;
@@ -100,8 +103,8 @@ fn shares_of<const N: usize>(
 /// How many instances are accepted, by the first mind that isn't drilled: all of these agree.
 fn accepted_by<const N: usize>(drill: &Drill, minds: &[Drilled<Create<N>>]) -> u32
     requires few { length minds.now ≤ 15 }
-    requires done { AllDone drill.now 1 minds.now }
-    ensures { result ≡ accepted_first drill.now 1 minds.now }
+    requires done { AllDone (names drill.now) 1 minds.now }
+    ensures { result ≡ accepted_first (names drill.now) 1 minds.now }
 {
     let mut seat = 1;
     for mind in minds {
@@ -113,21 +116,21 @@ fn accepted_by<const N: usize>(drill: &Drill, minds: &[Drilled<Create<N>>]) -> u
     0
 }
 
-/// The phase among N members, of whom at most t are drilled.
+/// The phase among N members, of whom at most as many as the bound are drilled.
 fn phase_of<const N: usize>(
     alloc: Global,
-    t: u32,
+    bound: u32,
     drill: &Drill,
     seeds: &[[u8; 32]],
 ) -> Result<Phase, OutOfMemory>
-    requires committee { IsCommittee N t }
-    requires lines { AllLawful (create_shape N t) drill.now }
-    requires few { named_among drill.now 0 N ≤ t }
+    requires committee { IsCommittee N bound }
+    requires lines { AllLawful (create_shape N bound) drill.now }
+    requires few { named_among drill.now 0 N ≤ bound }
     requires seeds { length seeds.now ≡ N }
-    ensures { IfOk result (λ phase. IsPhase (create_shape N t) drill.now seeds.now phase) }
+    ensures { IfOk result (λ phase. IsPhase (create_shape N bound) (names drill.now) drill.now (dealt_by bound seeds.now) phase) }
 {
-    let minds = minds_of::<N>(alloc, t, drill, seeds)?;
-    let driven = drive(alloc, minds, &Setting::create(N as u32, t))?;
+    let minds = minds_of::<N>(alloc, bound, drill, seeds)?;
+    let driven = drive(alloc, minds, &Setting::create(N as u32, bound))?;
     let accepted = accepted_by(drill, &driven.minds);
     let shares = shares_of(alloc, drill, &driven.minds)?;
     Ok(Phase {
@@ -137,27 +140,27 @@ fn phase_of<const N: usize>(
     })
 }
 
-/// The phase of a create among the members of a committee that the program has, with a seed for each. At most `t` of
-/// them are drilled. The error is want of memory.
+/// The phase of a create among the members of a committee that the program has, with a seed for each. At most as
+/// many as its bound are drilled. The error is want of memory.
 pub(crate) fn run_create(
     alloc: Global,
-    n: u32,
-    t: u32,
+    committee: Committee,
     drill: &Drill,
     seeds: &[[u8; 32]],
 ) -> Result<Phase, OutOfMemory>
-    requires size { IsTrue (is_size n) }
-    requires bound { IsTrue (is_bound n t) }
-    requires lines { AllLawful (create_shape n t) drill.now }
-    requires few { named_among drill.now 0 n ≤ t }
-    requires seeds { length seeds.now ≡ n }
-    ensures { IfOk result (λ phase. IsPhase (create_shape n t) drill.now seeds.now phase) }
+    requires size { IsTrue (is_size committee.members) }
+    requires bound { IsTrue (is_bound committee.members committee.bound) }
+    requires lines { AllLawful (create_shape committee.members committee.bound) drill.now }
+    requires few { named_among drill.now 0 committee.members ≤ committee.bound }
+    requires seeds { length seeds.now ≡ committee.members }
+    ensures { IfOk result (λ phase. IsPhase (create_shape committee.members committee.bound) (names drill.now) drill.now (dealt_by committee.bound seeds.now) phase) }
 {
-    match n {
-        4 => phase_of::<4>(alloc, t, drill, seeds),
-        5 => phase_of::<5>(alloc, t, drill, seeds),
-        7 => phase_of::<7>(alloc, t, drill, seeds),
-        10 => phase_of::<10>(alloc, t, drill, seeds),
-        _ => phase_of::<13>(alloc, t, drill, seeds),
+    let bound = committee.bound;
+    match committee.members {
+        4 => phase_of::<4>(alloc, bound, drill, seeds),
+        5 => phase_of::<5>(alloc, bound, drill, seeds),
+        7 => phase_of::<7>(alloc, bound, drill, seeds),
+        10 => phase_of::<10>(alloc, bound, drill, seeds),
+        _ => phase_of::<13>(alloc, bound, drill, seeds),
     }
 }

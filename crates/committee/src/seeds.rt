@@ -2,7 +2,7 @@
 ghost use Rattle.std.specs.Prelude.{◌≡◌, ◌≤◌, length, IfSome, IfOk, IfErr};
 ghost use Rattle.shelf.specs.Causes.{Takes, HasMore};
 ghost use Rattle.keyroom.specs.Outcome.{AreFirst};
-ghost use Rattle.committee.specs.Answer.{Took};
+ghost use Rattle.committee.specs.Answer.{Took, TookUpTo};
 ghost use Rattle.committee.specs.Causes.{IsFromEntropy};
 
 use keyroom::Status;
@@ -12,8 +12,9 @@ use std::alloc::Global;
 /// The next seed.
 fn seed_of<E: Entropy>(entropy: &mut E) -> Result<[u8; 32], Status>
     ensures taken { IfOk result (λ seed. Takes seed (E.coming entropy.old) (E.coming entropy.new)) }
+    ensures kept { IfErr result (λ _. E.coming entropy.new ≡ E.coming entropy.old) }
     ensures later { E.fault_count entropy.old ≤ E.fault_count entropy.new }
-    ensures cause { IfErr result (λ s. IsFromEntropy (E.fault_count entropy.old) (E.fault_count entropy.new) s) }
+    ensures cause { IfErr result (IsFromEntropy (E.fault_count entropy.old) (E.fault_count entropy.new)) }
     ensures calm { E.calm entropy.old → HasMore (E.coming entropy.old) → E.calm entropy.new }
 {
     let mut seed = [0; 32];
@@ -24,7 +25,7 @@ fn seed_of<E: Entropy>(entropy: &mut E) -> Result<[u8; 32], Status>
 }
 
 /// So many seeds, in the order in which they came. It refuses with `EntropyFault` only where the entropy's count of
-/// faults rose; how many seeds were taken then isn't said.
+/// faults rose. After a refusal, want of memory among them, at most so many seeds were taken.
 pub(crate) fn seeds_of<E: Entropy>(
     alloc: Global,
     count: u32,
@@ -33,8 +34,9 @@ pub(crate) fn seeds_of<E: Entropy>(
     ensures count { IfOk result (λ seeds. length seeds.items ≡ count) }
     ensures first { IfOk result (λ seeds. AreFirst seeds.items (E.coming entropy.old)) }
     ensures took { IfOk result (λ _. Took count (E.coming entropy.old) (E.coming entropy.new)) }
+    ensures some { IfErr result (λ _. TookUpTo count (E.coming entropy.old) (E.coming entropy.new)) }
     ensures later { E.fault_count entropy.old ≤ E.fault_count entropy.new }
-    ensures cause { IfErr result (λ s. IsFromEntropy (E.fault_count entropy.old) (E.fault_count entropy.new) s) }
+    ensures cause { IfErr result (IsFromEntropy (E.fault_count entropy.old) (E.fault_count entropy.new)) }
     ensures calm { E.calm entropy.old → IfSome (E.coming entropy.old) (λ seeds. count ≤ length seeds) → E.calm entropy.new }
 {
     let mut seeds = Vec::new(alloc);

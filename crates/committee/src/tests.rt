@@ -3,6 +3,7 @@ ghost use Rattle.std.specs.Prelude.{◌≤◌};
 use super::*;
 use field61::Fe;
 use keyroom::{MemberState, Sealed, check_key, open_doc, recover_key, seal_doc};
+use lists::TryCopy;
 use sharefile::{KeyName, NowFile, ShareFile, read_now, write_now, write_share};
 use shelf::{MemoryEntropy, MemoryShelf, MemorySink, Shelf};
 use std::alloc::Global;
@@ -34,6 +35,7 @@ fn put_share(
         index,
         period: 1,
         lanes: [Fe::reduce(first), zero, zero, zero, zero],
+        committee: None,
     };
     shelf.put(alloc, file, &write_share(alloc, &share)?)?;
     Ok(())
@@ -49,6 +51,7 @@ fn shelf_of(alloc: Global, third: u64) -> Result<MemoryShelf, Fail> {
         t: 1,
         period: 1,
         next_number: 0,
+        link: None,
     };
     shelf.put(alloc, "k1.now", &write_now(alloc, &now)?)?;
     put_share(alloc, &mut shelf, "k1.1.1.share", 1, 10)?;
@@ -215,7 +218,7 @@ fn changes_nothing_where_the_first_seed_fails(rt: HostRuntime) -> Result<(), Fai
         &mut seven_seeds(alloc, &[0])?,
         &mut out,
     );
-    assert_eq!(rt; status, Status::EntropyFault);
+    assert!(rt; matches!(status, Status::EntropyFault));
     assert_eq!(rt; shelf.len(), 0);
     assert_eq!(rt; out.bytes().len(), 0);
     Ok(())
@@ -358,6 +361,7 @@ fn the_last_number_is_refused(rt: HostRuntime) -> Result<(), Fail> {
         t: 1,
         period: 1,
         next_number: u32::MAX,
+        link: None,
     };
     shelf.put(alloc, "k1.now", &write_now(alloc, &now)?)?;
     refuses(

@@ -10,7 +10,7 @@ use Rattle.keyroom.specs.declared.check.Checked.{Checked}
 use Rattle.keyroom.specs.Outcome.{Then}
 use Rattle.keyroom.specs.Steps.{now_of, files_of}
 use Rattle.keyroom.specs.Recover.{recovered_by, MeansKeyOf}
-use Rattle.keyroom.specs.Decoding.{EnoughLieOn}
+use Rattle.keyroom.specs.Decoding.{HonestFiles}
 use Rattle.keyroom.specs.Check.{checked_by, MeansStatesOf, MeansStates}
 use Rattle.keyroom.proofs.Honest.{one_key, honest_end}
 
@@ -41,8 +41,7 @@ one_check name held a b p q =
     h.2 ∙ ap without_key (one_key name held h.0 k.0 h.1 k.1) ∙ sym k.2
 
 -- a check of the files of N - T honest members ends with the states by their polynomials
-pub honest_states : (name : List ℕ) (held : Held) (now : Now) (polys : List Polynomial) (end : Result Checked Status) → now_of name held ≡ Ok now →
-    EnoughLieOn now.n now.t (files_of now held) polys → MeansStates name held end → end ≡ Ok (checked_by now (files_of now held) polys)
-honest_states name held now polys end read enough means =
-    let h = comes_then name held (now_of name held) end refl means in
-    h.2 ∙ ap without_key (honest_end name held now polys h.0 read enough h.1)
+pub honest_states : (name : List ℕ) (held : Held) (now : Now) (polys : List Polynomial) (end : Result Checked Status) → HonestFiles name now held polys → MeansStates name held end → end ≡ Ok (checked_by now (files_of now held) polys)
+honest_states name held now polys end h means =
+    let c = comes_then name held (now_of name held) end refl means in
+    c.2 ∙ ap without_key (honest_end name held now polys c.0 h c.1)

@@ -2,10 +2,11 @@
 use Rattle.std.proofs.Common.{◌≡◌, inl, inr, ℕ, zero, suc, ◌+◌, ◌*◌, ◌<◌, ◌≤◌, List, [], ◌∷◌, length, map, Bool, true, false, cond, Result, Ok, Err, refl, sym, ap, ◌∙◌, subst, arith, Option, Some, None, IfSome}
 use Rattle.std.specs.Prelude.{◌&&◌, count_by}
 use Rattle.std.specs.List.{range_with_len}
+use Rattle.std.proofs.lemmas.Bool.Decides.{nat_tests}
 use Rattle.std.proofs.lemmas.List.{length-map}
 use Rattle.std.proofs.lemmas.List.Sums.{sum_by-cons}
 use Rattle.shelf.specs.Held.{Held}
-use Rattle.keyroom.specs.Outcome.{Answers, Then}
+use Rattle.keyroom.specs.Outcome.{AnswersWith, Then}
 use Rattle.keyroom.specs.Steps.{now_of, share_of, files_of}
 use Rattle.keyroom.proofs.Refusals.{answers_weaker}
 use Rattle.std.proofs.lemmas.List.FromFn.{fill_by_all, length-map-range_with_len}
@@ -13,16 +14,17 @@ use Rattle.algebra61.specs.Field.{Prime}
 use Rattle.algebra61.specs.Polynomial.{Polynomial, poly}
 use Rattle.algebra61.specs.Nearest.{wrong, wrong_one, missing}
 use Rattle.algebra61.proofs.NearestLemmas.{nearest_once, nearest_by_faults}
-use Rattle.sharefile.specs.Files.{Now, Share}
+use Rattle.sharefile.specs.Files.{Now, Share, IsChecked}
+use Rattle.sizes.specs.Committees.{is_size, is_bound}
 use Rattle.keyroom.specs.declared.status.Status.{Status}
 use Rattle.keyroom.specs.declared.status.Status.TheVariants.{NoKey}
 use Rattle.keyroom.specs.declared.steps.Found.{Found}
 use Rattle.keyroom.specs.declared.steps.Found.TheVariants.{Absent, Invalid, Valid}
 use Rattle.keyroom.specs.declared.state.MemberState.TheVariants.{Wrong, Fine}
 use Rattle.keyroom.specs.declared.recover.Recovered.{Recovered}
-use Rattle.keyroom.specs.Decoding.{value_in, values_in, lane_of, AreNearest, IsFirstWithout, EnoughLieOn, agrees, agrees_in, states_of, is_fine}
+use Rattle.keyroom.specs.Decoding.{value_in, values_in, lane_of, AreNearest, IsFirstWithout, EnoughLieOn, HonestFiles, agrees, agrees_in, states_of, is_fine}
 use Rattle.keyroom.specs.Recover.{recovered_by, MeansKeyOf, MeansKey}
-use Rattle.keyroom.proofs.Sizes.{size_fits, bound_fits, HasSizes, now_sizes}
+use Rattle.keyroom.proofs.Reading.{now_checked}
 
 lane_cases : (P : ℕ → Type 0) → P 0 → P 1 → P 2 → P 3 → P 4 → (lane : ℕ) → lane < 5 → P lane
 lane_cases P a b c d e zero lt = a
@@ -107,12 +109,18 @@ key_once now files a b few (inl (p, h, e)) (inr (lane, k, f)) = absurd (never_bo
 key_once now files a b few (inr (lane, h, e)) (inl (q, k, f)) = absurd (never_both now.t files q lane k h)
 key_once now files a b few (inr (l, h, e)) (inr (m, k, f)) = e ∙ ap (λ n. Err (NoKey n)) (same_first now.t files l m h k) ∙ sym f
 
-few_files : (now : Now) (files : List Found) → HasSizes now → length files ≡ now.n → length files < Prime
+size_fits : (n : ℕ) → is_size n ≡ true → n ≤ 13
+size_fits n is = grind (arith, nat_tests)
+
+bound_fits : (n t : ℕ) → is_bound n t ≡ true → 3 * t < n
+bound_fits n t is = grind (arith, nat_tests)
+
+few_files : (now : Now) (files : List Found) → IsChecked now → length files ≡ now.n → length files < Prime
 few_files now files is count = omega (arith, count, size_fits now.n is.size)
 
-honest_key : (now : Now) (files : List Found) (polys : List Polynomial) (end : Result Recovered Status) → HasSizes now → length files ≡ now.n → EnoughLieOn now.n now.t files polys → MeansKeyOf now files end → end ≡ Ok (recovered_by now files polys)
+honest_key : (now : Now) (files : List Found) (polys : List Polynomial) (end : Result Recovered Status) → IsChecked now → length files ≡ now.n → EnoughLieOn now.n now.t files polys → MeansKeyOf now files end → end ≡ Ok (recovered_by now files polys)
 honest_key now files polys end is count h means =
-    key_once now files end (Ok (recovered_by now files polys)) (few_files now files is count) means (inl (polys, enough_are_nearest now.n now.t files polys (bound_fits now.n now.t is.bound).1 count h, refl))
+    key_once now files end (Ok (recovered_by now files polys)) (few_files now files is count) means (inl (polys, enough_are_nearest now.n now.t files polys (bound_fits now.n now.t is.bound) count h, refl))
 
 files_count : (now : Now) (held : Held) → length (files_of now held) ≡ now.n
 files_count now held = length-map-range_with_len (share_of now held) 1 now.n
@@ -120,47 +128,46 @@ files_count now held = length-map-range_with_len (share_of now held) 1 now.n
 -- what follows of the now file that was read
 key_then : (name : List ℕ) (held : Held) (r : Result Now Status) (a b : Result Recovered Status) → now_of name held ≡ r →
     Then r (λ now. MeansKeyOf now (files_of now held)) a → Then r (λ now. MeansKeyOf now (files_of now held)) b → a ≡ b
-key_then name held (Ok now) a b read p q = key_once now (files_of now held) a b (few_files now (files_of now held) (now_sizes name held now read) (files_count now held)) p q
+key_then name held (Ok now) a b read p q = key_once now (files_of now held) a b (few_files now (files_of now held) (now_checked name held now read) (files_count now held)) p q
 key_then name held (Err status) a b read p q = p ∙ sym q
 
 pub one_key : (name : List ℕ) (held : Held) (a b : Result Recovered Status) → MeansKey name held a → MeansKey name held b → a ≡ b
 one_key name held a b p q = key_then name held (now_of name held) a b refl p q
 
-honest_then : (name : List ℕ) (held : Held) (now : Now) (polys : List Polynomial) (r : Result Now Status) (end : Result Recovered Status) → r ≡ Ok now → HasSizes now →
+honest_then : (name : List ℕ) (held : Held) (now : Now) (polys : List Polynomial) (r : Result Now Status) (end : Result Recovered Status) → r ≡ Ok now → IsChecked now →
     EnoughLieOn now.n now.t (files_of now held) polys → Then r (λ now. MeansKeyOf now (files_of now held)) end → end ≡ Ok (recovered_by now (files_of now held) polys)
 honest_then name held now polys (Ok f) end e is h means =
     let same : f ≡ now = cc in
     honest_key now (files_of now held) polys end is (files_count now held) h (subst (λ g. MeansKeyOf g (files_of g held) end) same means)
 honest_then name held now polys (Err status) end e is h means = absurd cc
 
-pub honest_end : (name : List ℕ) (held : Held) (now : Now) (polys : List Polynomial) (end : Result Recovered Status) → now_of name held ≡ Ok now →
-    EnoughLieOn now.n now.t (files_of now held) polys → MeansKey name held end → end ≡ Ok (recovered_by now (files_of now held) polys)
-honest_end name held now polys end read h means = honest_then name held now polys (now_of name held) end read (now_sizes name held now read) h means
+pub honest_end : (name : List ℕ) (held : Held) (now : Now) (polys : List Polynomial) (end : Result Recovered Status) → HonestFiles name now held polys → MeansKey name held end → end ≡ Ok (recovered_by now (files_of now held) polys)
+honest_end name held now polys end h means = honest_then name held now polys (now_of name held) end h.now_is (now_checked name held now h.now_is) h.enough means
 
 -- recovery then ends with them
-pub honest_is_meant : (name : List ℕ) (held : Held) (now : Now) (polys : List Polynomial) → now_of name held ≡ Ok now → EnoughLieOn now.n now.t (files_of now held) polys → MeansKey name held (Ok (recovered_by now (files_of now held) polys))
-honest_is_meant name held now polys read h =
-    subst (λ r. Then r (λ f. MeansKeyOf f (files_of f held)) (Ok (recovered_by now (files_of now held) polys))) (sym read)
-    (inl (polys, enough_are_nearest now.n now.t (files_of now held) polys (bound_fits now.n now.t (now_sizes name held now read).bound).1 (files_count now held) h, refl))
+pub honest_is_meant : (name : List ℕ) (held : Held) (now : Now) (polys : List Polynomial) → HonestFiles name now held polys → MeansKey name held (Ok (recovered_by now (files_of now held) polys))
+honest_is_meant name held now polys h =
+    subst (λ r. Then r (λ f. MeansKeyOf f (files_of f held)) (Ok (recovered_by now (files_of now held) polys))) (sym h.now_is)
+    (inl (polys, enough_are_nearest now.n now.t (files_of now held) polys (bound_fits now.n now.t (now_checked name held now h.now_is).bound) (files_count now held) h.enough, refl))
 
 -- the same of a call that answered what is meant
-honest_answer : (told : Option Held) (name : List ℕ) (result : Result Recovered Status) → IfSome told (λ m. Answers (MeansKey name m) result) →
-    IfSome told (λ m. (now : Now) (polys : List Polynomial) → now_of name m ≡ Ok now → EnoughLieOn now.n now.t (files_of now m) polys → Answers (λ end. end ≡ Ok (recovered_by now (files_of now m) polys)) result)
+honest_answer : (held : Option Held) (name : List ℕ) (result : Result Recovered Status) → IfSome held (λ m. AnswersWith (MeansKey name m) result) →
+    IfSome held (λ m. (now : Now) (polys : List Polynomial) → HonestFiles name now m polys → AnswersWith (λ end. end ≡ Ok (recovered_by now (files_of now m) polys)) result)
 honest_answer None name result means = tt
-honest_answer (Some m) name result means = λ now polys read h.
-    answers_weaker (MeansKey name m) (λ end. end ≡ Ok (recovered_by now (files_of now m) polys)) result (λ end k. honest_end name m now polys end read h k) means
+honest_answer (Some m) name result means = λ now polys h.
+    answers_weaker (λ x. x) (MeansKey name m) (λ end. end ≡ Ok (recovered_by now (files_of now m) polys)) result (λ end k. honest_end name m now polys end h k) means
 
 -- a call that got the now file and the files from the shelf, which holds what it held
 call_means : (old mid : Option Held) (name : List ℕ) (now : Now) (files : List Found) (result : Result Recovered Status) → mid ≡ old →
-    IfSome old (λ m. now_of name m ≡ Ok now) → IfSome mid (λ m. files ≡ files_of now m) → Answers (MeansKeyOf now files) result → IfSome old (λ m. Answers (MeansKey name m) result)
+    IfSome old (λ m. now_of name m ≡ Ok now) → IfSome mid (λ m. files ≡ files_of now m) → AnswersWith (MeansKeyOf now files) result → IfSome old (λ m. AnswersWith (MeansKey name m) result)
 call_means None mid name now files result same read found means = tt
 call_means (Some m) mid name now files result same read found means =
     let here : files ≡ files_of now m = subst (λ o. IfSome o (λ m. files ≡ files_of now m)) same found in
     let on : (r : Result Now Status) → r ≡ Ok now → (end : Result Recovered Status) → MeansKeyOf now files end → Then r (λ f. MeansKeyOf f (files_of f m)) end =
     λ r e end k. subst (λ q. Then q (λ f. MeansKeyOf f (files_of f m)) end) (sym e) (subst (λ fs. MeansKeyOf now fs end) here k) in
-    answers_weaker (MeansKeyOf now files) (MeansKey name m) result (on (now_of name m) read) means
+    answers_weaker (λ x. x) (MeansKeyOf now files) (MeansKey name m) result (on (now_of name m) read) means
 
 pub honest_call : (old mid : Option Held) (name : List ℕ) (now : Now) (files : List Found) (result : Result Recovered Status) → mid ≡ old →
-    IfSome old (λ m. now_of name m ≡ Ok now) → IfSome mid (λ m. files ≡ files_of now m) → Answers (MeansKeyOf now files) result →
-    IfSome old (λ m. (named : Now) (polys : List Polynomial) → now_of name m ≡ Ok named → EnoughLieOn named.n named.t (files_of named m) polys → Answers (λ end. end ≡ Ok (recovered_by named (files_of named m) polys)) result)
+    IfSome old (λ m. now_of name m ≡ Ok now) → IfSome mid (λ m. files ≡ files_of now m) → AnswersWith (MeansKeyOf now files) result →
+    IfSome old (λ m. (named : Now) (polys : List Polynomial) → HonestFiles name named m polys → AnswersWith (λ end. end ≡ Ok (recovered_by named (files_of named m) polys)) result)
 honest_call old mid name now files result same read found means = honest_answer old name result (call_means old mid name now files result same read found means)

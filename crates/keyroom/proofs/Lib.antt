@@ -2,13 +2,13 @@ pub mod Changes
 pub mod Asking
 pub mod Loops
 pub mod Deciding
-pub mod Sizes
-pub mod Numerals
+pub mod Reading
+pub mod Spelling
 pub mod Creates
 pub mod Refusals
 pub mod Honest
 pub mod Checking
-pub mod Named
 pub mod Valid
 pub mod Working
 pub mod RoundTrip
+pub mod Rising

@@ -1,25 +1,47 @@
--- What is said of a refusal, weakened.
-use Rattle.std.proofs.Common.{Result, Ok, Err}
+-- What is said of an answer, weakened, and which causes the answers of a step have.
+use Rattle.std.proofs.Common.{◌≡◌, ℕ, ◌≤◌, Result, Ok, Err, IfErr, ap, arith}
 use Rattle.keyroom.specs.declared.status.Status.{Status}
-use Rattle.keyroom.specs.declared.status.Status.TheVariants.{Done, Usage, NoSuch, Exists, NoKey, BadBox, Full, BadDrill, ShelfFault, EntropyFault, SinkFault, OutOfMemory, BadNow, TooLong}
-use Rattle.keyroom.specs.Outcome.{Refuses, Answers}
+use Rattle.keyroom.specs.Causes.{Cause, Done, Refusal, Shelf, Entropy, Sink, Memory, cause_of, IsOfShelf, IsOfPlan, IsFromShelf, IsFromPlan}
+use Rattle.keyroom.specs.Outcome.{AnswersAs}
 
-pub refuses_weaker : (P Q : Status → Type 0) (status : Status) → ((s : Status) → P s → Q s) → Refuses status P → Refuses status Q
-refuses_weaker P Q Done f h = f Done h
-refuses_weaker P Q Usage f h = f Usage h
-refuses_weaker P Q (NoSuch what) f h = f (NoSuch what) h
-refuses_weaker P Q Exists f h = f Exists h
-refuses_weaker P Q (NoKey lane) f h = f (NoKey lane) h
-refuses_weaker P Q (BadBox fault) f h = f (BadBox fault) h
-refuses_weaker P Q (Full number) f h = f (Full number) h
-refuses_weaker P Q (BadDrill fault) f h = f (BadDrill fault) h
-refuses_weaker P Q ShelfFault f h = tt
-refuses_weaker P Q EntropyFault f h = tt
-refuses_weaker P Q SinkFault f h = f SinkFault h
-refuses_weaker P Q OutOfMemory f h = tt
-refuses_weaker P Q (BadNow fault) f h = f (BadNow fault) h
-refuses_weaker P Q (TooLong length) f h = f (TooLong length) h
+pub answers_weaker : {X Y : Type 0} (view : X → Y) (P Q : Result Y Status → Type 0) (r : Result X Status) → ((end : Result Y Status) → P end → Q end) → AnswersAs view P r → AnswersAs view Q r
+answers_weaker view P Q (Ok x) f h = f (Ok (view x)) h
+answers_weaker view P Q (Err status) f h = λ is. f (Err status) (h is)
 
-pub answers_weaker : {X : Type 0} (P Q : Result X Status → Type 0) (r : Result X Status) → ((s : Result X Status) → P s → Q s) → Answers P r → Answers Q r
-answers_weaker P Q (Ok x) f h = f (Ok x) h
-answers_weaker P Q (Err status) f h = refuses_weaker (λ s. P (Err s)) (λ s. Q (Err s)) status (λ s k. f (Err s) k) h
+plan_cause : (c : Cause) → IsOfShelf c → IsOfPlan c
+plan_cause Done by = absurd by
+plan_cause Refusal by = absurd by
+plan_cause Shelf by = tt
+plan_cause Entropy by = absurd by
+plan_cause Sink by = absurd by
+plan_cause Memory by = tt
+
+never_refusal : (c : Cause) → IsOfShelf c → c ≡ Refusal → ⊥
+never_refusal Done by e = by
+never_refusal Refusal by e = by
+never_refusal Shelf by e = cc
+never_refusal Entropy by e = by
+never_refusal Sink by e = by
+never_refusal Memory by e = cc
+
+-- a step that only asks the shelf doesn't refuse
+pub shelf_never_refuses : (status : Status) → IsOfShelf (cause_of status) → cause_of status ≡ Refusal → ⊥
+shelf_never_refuses status by e = never_refusal (cause_of status) by e
+
+-- what only asks the shelf is a plan's step
+pub from_shelf : (before now : ℕ) (status : Status) → IsFromShelf before now status → IsFromPlan before now status
+from_shelf before now status h = record {
+  shelf = h.shelf;
+  by = plan_cause (cause_of status) h.by;
+  read = λ e. shelf_never_refuses status h.by (ap cause_of e);
+}
+
+-- the same of a call after others that only read
+pub from_shelf_all : {X : Type 0} (first before now : ℕ) (r : Result X Status) → first ≤ before → IfErr r (λ s. IsFromShelf before now s) → IfErr r (λ s. IsFromPlan first now s)
+from_shelf_all first before now (Ok x) le h = tt
+from_shelf_all first before now (Err s) le h = let p = from_shelf before now s h in record { shelf = λ e. omega (arith, le, p.shelf e); by = p.by; read = p.read }
+
+-- the same of a call that asks nothing
+pub from_nothing : {X : Type 0} (before now : ℕ) (r : Result X Status) → IfErr r (λ s. (first last : ℕ) → IsFromPlan first last s) → IfErr r (λ s. IsFromPlan before now s)
+from_nothing before now (Ok x) h = tt
+from_nothing before now (Err s) h = h before now

@@ -3,10 +3,11 @@ use Rattle.std.proofs.Common.{◌≡◌, ℕ, Bool, true, false, cond, ◌&&◌,
 use Rattle.std.specs.Prelude.{◌==◌}
 use Rattle.std.specs.FinMap.{get}
 use Rattle.std.specs.Str.{bytes_eq}
+use Rattle.std.specs.Option.{option_eq}
 use Rattle.std.proofs.lemmas.Bool.{and_parts, eqb-true}
 use Rattle.shelf.specs.Held.{Held}
 use Rattle.sharefile.specs.declared.fault.FileFault.{FileFault}
-use Rattle.sharefile.specs.Files.{Now, Share}
+use Rattle.sharefile.specs.Files.{Now, Share, committee_of}
 use Rattle.sharefile.specs.Reading.{share_at}
 use Rattle.keyroom.specs.declared.steps.Found.TheVariants.{Invalid, Valid}
 use Rattle.keyroom.specs.Names.{share_name}
@@ -18,7 +19,7 @@ asked_cases false f file e = absurd (cc)
 
 asked_index : (now : Now) (index : ℕ) (f : Share) → is_asked now index f ≡ true → f.index ≡ index
 asked_index now index f e =
-    let before : Bool = bytes_eq f.name now.name && (f.period == now.period) && (f.n == now.n) && (f.t == now.t) in
+    let before : Bool = bytes_eq f.name now.name && (f.period == now.period) && (f.n == now.n) && (f.t == now.t) && option_eq bytes_eq f.committee (committee_of now) in
     eqb-true f.index index (and_parts before (f.index == index) e).1
 
 -- what the name of a valid share file holds
@@ -34,7 +35,7 @@ asked_held now j bytes (Ok f) file e h =
     let both = asked_cases (is_asked now j f) f file h in
     record { bytes = bytes; is = refl; read = e ∙ ap (λ (x : Share). Ok x) both.1; index = ap (λ (x : Share). x.index) (sym both.1) ∙ asked_index now j f both.0 }
 
-step_held : (now : Now) (j : ℕ) (o : Option (List ℕ)) (file : Share) → share_step now j o ≡ Valid file → Holds now j o file
+pub step_held : (now : Now) (j : ℕ) (o : Option (List ℕ)) (file : Share) → share_step now j o ≡ Valid file → Holds now j o file
 step_held now j None file h = absurd (cc)
 step_held now j (Some bytes) file h = asked_held now j bytes (share_at bytes) file refl h
 

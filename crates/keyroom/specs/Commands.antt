@@ -11,7 +11,7 @@ text_of None = None
 text_of (Some text) = Some text.now
 
 abbrev pub command_of : Command → words.Command
-command_of (Create name n t drill) = words.Create name n t (text_of drill)
+command_of (Create name committee drill) = words.Create name committee.members committee.bound (text_of drill)
 command_of (Recover name) = words.Recover name
 command_of (Check name) = words.Check name
 command_of (Seal name doc target) = words.Seal name doc.now target.now

@@ -4,13 +4,15 @@ use Rattle.algebra61.specs.Field.{Fp, fe, zeroₚ}
 use Rattle.algebra61.specs.Poly.{eval}
 use Rattle.algebra61.specs.Polynomial.{Polynomial, poly}
 use Rattle.algebra61.specs.Nearest.{IsNearest}
-use Rattle.sharefile.specs.Files.{Share}
+use Rattle.shelf.specs.Held.{Held}
+use Rattle.sharefile.specs.Files.{Now, Share}
 use Rattle.keyroom.specs.declared.status.Status.{Status}
 use Rattle.keyroom.specs.declared.status.Status.TheVariants.{NoKey, OutOfMemory}
 use Rattle.keyroom.specs.declared.state.MemberState.{MemberState}
 use Rattle.keyroom.specs.declared.state.MemberState.TheVariants.{Missing, Damaged, Wrong, Fine}
 use Rattle.keyroom.specs.declared.steps.Found.{Found}
 use Rattle.keyroom.specs.declared.steps.Found.TheVariants.{Absent, Invalid, Valid}
+use Rattle.keyroom.specs.Steps.{now_of, files_of}
 
 -- the value of a lane that a file has, if it is valid
 abbrev pub value_in : ℕ → Found → Option Fp
@@ -83,3 +85,9 @@ pub record EnoughLieOn (n t : ℕ) (files : List Found) (polys : List Polynomial
   pub count : length polys ≡ 5
   pub short : (lane : ℕ) → lane < 5 → length (lane_of polys lane).coeffs ≤ t + 1
   pub enough : n ≤ t + count_by is_fine (states_of polys 1 files)
+
+-- The now file of a key is held, and N - T members have valid share files whose lanes lie on these polynomials of degree
+-- at most T. Nothing is said of the other files.
+pub record HonestFiles (name : List ℕ) (now : Now) (held : Held) (polys : List Polynomial) : Type 0 where
+  pub now_is : now_of name held ≡ Ok now
+  pub enough : EnoughLieOn now.n now.t (files_of now held) polys

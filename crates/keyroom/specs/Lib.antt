@@ -1,8 +1,8 @@
 pub mod Words
-pub mod Numbers
 pub mod Commands
 pub mod Names
 pub mod StatusLines
+pub mod Causes
 pub mod Outcome
 pub mod Changes
 pub mod Answer
@@ -14,3 +14,4 @@ pub mod Texts
 pub mod Work
 pub mod Seal
 pub mod Open
+pub mod Document

@@ -1,9 +1,10 @@
 -- What a command comes to: a status, changes of the shelf in their order, a text, and how many seeds it takes.
 use Rattle.std.specs.Prelude.{◌≡◌, ℕ, List, [], ◌++◌, Option, Some, None, Result, Ok, Err}
 use Rattle.shelf.specs.Held.{Change}
-use Rattle.shelf.specs.Causes.{Rose}
 use Rattle.keyroom.specs.declared.status.Status.{Status}
-use Rattle.keyroom.specs.declared.status.Status.TheVariants.{Done, Usage, ShelfFault, EntropyFault, SinkFault, OutOfMemory}
+use Rattle.keyroom.specs.declared.status.Status.TheVariants.{Done}
+use Rattle.keyroom.specs.Causes.{cause_of}
+use Rattle.keyroom.specs.Causes as cause
 
 pub record Outcome : Type 0 where
   pub status : Status
@@ -38,35 +39,16 @@ abbrev pub AreFirst : List (List ℕ) → Option (List (List ℕ)) → Type 0
 AreFirst seeds None = Unit {0}
 AreFirst seeds (Some coming) = (rest : List (List ℕ)) × (coming ≡ seeds ++ rest)
 
--- The outside's faults and want of memory may come at any step. Every other status is the step's.
-abbrev pub Refuses : Status → (Status → Type 0) → Type 0
-Refuses ShelfFault means = Unit {0}
-Refuses EntropyFault means = Unit {0}
-Refuses OutOfMemory means = Unit {0}
-Refuses status means = means status
+-- What a function returned, as the plain value that it is seen as, is among what is meant. The outside's faults and want
+-- of memory may come at any step.
+abbrev pub AnswersAs : {X Y : Type 0} → (X → Y) → (Result Y Status → Type 0) → Result X Status → Type 0
+AnswersAs view means (Ok x) = means (Ok (view x))
+AnswersAs view means (Err status) = cause_of status ≡ cause.Refusal → means (Err status)
 
--- What a function returned is what the step gives, unless the outside or memory failed.
-abbrev pub Gives : {X Y : Type 0} → (X → Y) → Result X Status → Result Y Status → Type 0
-Gives view (Ok x) step = step ≡ Ok (view x)
-Gives view (Err status) step = Refuses status (λ s. step ≡ Err s)
+-- the same where it is seen as it is
+abbrev pub AnswersWith : {X : Type 0} → (Result X Status → Type 0) → Result X Status → Type 0
+AnswersWith means result = AnswersAs (λ x. x) means result
 
--- What a function returned is among what is meant, unless the outside or memory failed.
-abbrev pub Answers : {X : Type 0} → (Result X Status → Type 0) → Result X Status → Type 0
-Answers means (Ok x) = means (Ok x)
-Answers means (Err status) = Refuses status (λ s. means (Err s))
-
--- what a step that only asks the shelf may refuse with: a fault only where the shelf's count rose
-abbrev pub IsFromShelf : ℕ → ℕ → Status → Type 0
-IsFromShelf before now ShelfFault = Rose before now
-IsFromShelf before now OutOfMemory = Unit {0}
-IsFromShelf before now status = ⊥
-
--- What a command that takes no seeds may refuse with before it changes anything: a fault only where the shelf's count
--- rose, and none of the answers that belong to other parts.
-abbrev pub IsFromPlan : ℕ → ℕ → Status → Type 0
-IsFromPlan before now ShelfFault = Rose before now
-IsFromPlan before now EntropyFault = ⊥
-IsFromPlan before now Done = ⊥
-IsFromPlan before now Usage = ⊥
-IsFromPlan before now SinkFault = ⊥
-IsFromPlan before now status = Unit {0}
+-- what a function returned is what the step gives
+abbrev pub AnswersStep : {X Y : Type 0} → (X → Y) → Result X Status → Result Y Status → Type 0
+AnswersStep view result step = AnswersAs view (λ end. step ≡ end) result

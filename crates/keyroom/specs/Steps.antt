@@ -2,11 +2,12 @@
 use Rattle.std.specs.Prelude.{◌≡◌, ℕ, List, map, Bool, ◌&&◌, ◌==◌, Option, Some, None, Result, Ok, Err, if◌then◌else◌, length, nat_lt, ◌^◌}
 use Rattle.std.specs.List.{range_with_len}
 use Rattle.std.specs.Str.{bytes_eq}
+use Rattle.std.specs.Option.{option_eq}
 use Rattle.std.specs.FinMap.{get}
 use Rattle.shelf.specs.Held.{Held}
 use Rattle.sharefile.specs.declared.fault.FileFault.{FileFault}
 use Rattle.sharefile.specs.declared.fault.FileFault.TheVariants.{Field}
-use Rattle.sharefile.specs.Files.{Now, Share}
+use Rattle.sharefile.specs.Files.{Now, Share, committee_of}
 use Rattle.sharefile.specs.Reading.{now_at, share_at}
 use Rattle.keyroom.specs.declared.status.Status.{Status}
 use Rattle.keyroom.specs.declared.status.Status.TheVariants.{NoSuch, Exists, BadNow, Full, TooLong}
@@ -71,9 +72,12 @@ sealable asked =
     if nat_lt (2 ^ 26) (length asked.bytes) then Err (TooLong (length asked.bytes)) else
     Ok tt
 
--- the share file is the one that was asked for
+-- the share file is the one that was asked for, and of the now file's committee: both are of version 1, or both have one
+-- digest
 abbrev pub is_asked : Now → ℕ → Share → Bool
-is_asked now index f = bytes_eq f.name now.name && (f.period == now.period) && (f.n == now.n) && (f.t == now.t) && (f.index == index)
+is_asked now index f =
+    bytes_eq f.name now.name && (f.period == now.period) && (f.n == now.n) && (f.t == now.t)
+    && option_eq bytes_eq f.committee (committee_of now) && (f.index == index)
 
 abbrev pub share_asked : Now → ℕ → Result Share FileFault → Found
 share_asked now index (Ok f) = if is_asked now index f then Valid f else Invalid
@@ -86,6 +90,10 @@ share_step now index (Some bytes) = share_asked now index (share_at bytes)
 -- what stands under the name of a member's share file
 abbrev pub share_of : Now → Held → ℕ → Found
 share_of now held index = share_step now index (get held (share_name now.name now.period index))
+
+-- these bytes are a member's valid share file
+abbrev pub IsShareOf : Now → ℕ → List ℕ → Share → Type 0
+IsShareOf now index bytes f = share_step now index (Some bytes) ≡ Valid f
 
 -- a member's share file is held and valid: this one
 abbrev pub HasShare : Now → Held → ℕ → Share → Type 0

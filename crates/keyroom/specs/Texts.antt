@@ -60,10 +60,6 @@ abbrev pub create_text : Now → List ℕ → ℕ → ℕ → List ℕ → List 
 create_text f masks accepted instances indexes =
     line (codes "create " ++ committee_words f) ++ (round_lines 1 masks ++ (accepted_line accepted instances ++ shares_line indexes))
 
--- what a seal prints: the document's number and length
-abbrev pub seal_text : List ℕ → ℕ → ℕ → List ℕ
-seal_text name number bytes = line (codes "seal " ++ (name ++ (codes " number " ++ (decimal number ++ (codes " bytes " ++ decimal bytes)))))
-
--- what an open prints: the document's number and length
-abbrev pub open_text : List ℕ → ℕ → ℕ → List ℕ
-open_text name number bytes = line (codes "open " ++ (name ++ (codes " number " ++ (decimal number ++ (codes " bytes " ++ decimal bytes)))))
+-- what a seal or an open prints, by its word: the document's number and length
+abbrev pub document_text : List ℕ → List ℕ → ℕ → ℕ → List ℕ
+document_text verb name number bytes = line (verb ++ (codes " " ++ (name ++ (codes " number " ++ (decimal number ++ (codes " bytes " ++ decimal bytes))))))

@@ -2,7 +2,7 @@
 use Rattle.std.specs.Prelude.{◌≡◌, decimal, ℕ, eqb, nat_le, List, [], ◌∷◌, map, length, String, string_bytes, codes, Bool, not, ◌&&◌, ◌||◌, ◌==◌, Option, Some, None, IfSome, IsTrue}
 use Rattle.std.specs.List.{list_all, starts_with, ends_with}
 use Rattle.sharefile.specs.Names.{is_key_name}
-use Rattle.sharefile.specs.Files.{is_size, is_bound}
+use Rattle.sizes.specs.Committees.{is_size, is_bound}
 
 -- a command, by its words
 pub data Command : Type 0 where

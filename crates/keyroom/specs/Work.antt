@@ -4,13 +4,13 @@ use Rattle.algebra61.specs.Polynomial.{Polynomial}
 use Rattle.shelf.specs.Held.{Held, Change}
 use Rattle.sharefile.specs.Files.{Now}
 use Rattle.keyroom.specs.declared.status.Status.{Status}
-use Rattle.keyroom.specs.declared.status.Status.TheVariants.{ShelfFault, OutOfMemory}
 use Rattle.keyroom.specs.declared.steps.Found.{Found}
 use Rattle.keyroom.specs.declared.work.Sealed.{Sealed}
-use Rattle.keyroom.specs.declared.work.Work as code_work
-use Rattle.keyroom.specs.declared.work.Asked as code_asked
+use Rattle.keyroom.specs.declared.work.Prepared.{Prepared}
+use Rattle.keyroom.specs.declared.work.Inputs.{Inputs}
 use Rattle.keyroom.specs.declared.recover.Recovered.{Recovered}
-use Rattle.keyroom.specs.Outcome.{Refuses}
+use Rattle.keyroom.specs.Causes.{Cause, cause_of}
+use Rattle.keyroom.specs.Causes as cause
 use Rattle.keyroom.specs.Changes.{changes_of}
 use Rattle.keyroom.specs.Steps.{Asked}
 use Rattle.keyroom.specs.Recover.{recovered_by}
@@ -22,12 +22,12 @@ pub record Work : Type 0 where
   pub bytes : ℕ
   pub changes : List Change
 
--- as the code has it
-abbrev pub work_of : code_work.Work → Work
+-- what the code has prepared
+abbrev pub work_of : Prepared → Work
 work_of work = record { number = work.sealed.number; bytes = work.sealed.bytes; changes = changes_of work.changes.items }
 
 -- the same of what was asked for
-abbrev pub asked_in : code_asked.Asked → Asked
+abbrev pub asked_in : Inputs → Asked
 asked_in asked = record { now = asked.file; bytes = asked.bytes.items }
 
 -- what is answered of a work that was done
@@ -42,23 +42,20 @@ Keys = Now → List Found → Result Recovered Status → Type 0
 abbrev pub KeyIsOf : List Polynomial → Keys
 KeyIsOf polys now files key = key ≡ Ok (recovered_by now files polys)
 
--- What a function returned, as the plain value that it is seen as, is among what is meant, unless the outside or memory
--- failed.
-abbrev pub AnswersAs : {X Y : Type 0} → (X → Y) → (Result Y Status → Type 0) → Result X Status → Type 0
-AnswersAs view means (Ok x) = means (Ok (view x))
-AnswersAs view means (Err status) = Refuses status (λ s. means (Err s))
+-- What a call that seals or opens leaves, by the cause of its refusal: a refusal, which is the one that is meant, changes
+-- nothing; after a fault of the shelf and want of memory a part of the changes was made, from the front.
+abbrev pub Stops : (Result Work Status → Type 0) → Option Held → Option Held → Status → Cause → Type 0
+Stops means old new status cause.Refusal = means (Err status) × (new ≡ old)
+Stops means old new status cause.Shelf = (new ≡ old) ⊎ ((work : Work) × means (Ok work) × IsPartWay work.changes old new)
+Stops means old new status cause.Memory = (new ≡ old) ⊎ ((work : Work) × means (Ok work) × IsPartWay work.changes old new)
+Stops means old new status cause = ⊥
 
--- What a call that seals or opens leaves: all changes of the work that is meant; after a fault of the shelf or want of
--- memory a part of them, from the front; and after each other refusal, which is the one that is meant, none.
+-- what it leaves, all changes of the work that is meant among it
 abbrev pub Works : (Result Work Status → Type 0) → Option Held → Option Held → Result Sealed Status → Type 0
 Works means old new (Ok sealed) = (work : Work) × means (Ok work) × (sealed ≡ sealed_of work) × IsChanged work.changes old new
-Works means old new (Err ShelfFault) = (new ≡ old) ⊎ ((work : Work) × means (Ok work) × IsPartWay work.changes old new)
-Works means old new (Err OutOfMemory) = (new ≡ old) ⊎ ((work : Work) × means (Ok work) × IsPartWay work.changes old new)
-Works means old new (Err status) = means (Err status) × (new ≡ old)
+Works means old new (Err status) = Stops means old new status (cause_of status)
 
 -- what making the changes of a work leaves
 abbrev pub Finishes : Work → Option Held → Option Held → Result Sealed Status → Type 0
 Finishes work old new (Ok sealed) = (sealed ≡ sealed_of work) × IsChanged work.changes old new
-Finishes work old new (Err ShelfFault) = IsPartWay work.changes old new
-Finishes work old new (Err OutOfMemory) = IsPartWay work.changes old new
-Finishes work old new (Err status) = ⊥
+Finishes work old new (Err status) = IsPartWay work.changes old new

@@ -3,9 +3,10 @@ ghost use Rattle.std.specs.Prelude.{◌≡◌, List, [], Ok, IfOk, IfSome, IfErr
 ghost use Rattle.algebra61.specs.Polynomial.{Polynomial};
 ghost use Rattle.shelf.specs.Causes.{OnlyReads};
 ghost use Rattle.sharefile.specs.Files.{Now};
-ghost use Rattle.keyroom.specs.Steps.{now_of, files_of};
-ghost use Rattle.keyroom.specs.Decoding.{EnoughLieOn};
-ghost use Rattle.keyroom.specs.Outcome.{IsFromPlan, Answers, done};
+ghost use Rattle.keyroom.specs.Causes.{IsFromPlan};
+ghost use Rattle.keyroom.specs.Steps.{files_of};
+ghost use Rattle.keyroom.specs.Decoding.{HonestFiles};
+ghost use Rattle.keyroom.specs.Outcome.{AnswersWith, done};
 ghost use Rattle.keyroom.specs.Changes.{outcome_of};
 ghost use Rattle.keyroom.specs.Texts.{check_text};
 ghost use Rattle.keyroom.specs.Answer.{Plans};
@@ -16,7 +17,7 @@ use crate::recover::recover_key;
 use crate::state::StateList;
 use crate::status::Status;
 use crate::text;
-use field61::OutOfMemory;
+use lists::OutOfMemory;
 use sharefile::{KeyName, NowFile};
 use shelf::Shelf;
 use std::alloc::Global;
@@ -36,10 +37,10 @@ pub fn check_key<H: Shelf>(alloc: Global, shelf: &mut H, name: &KeyName) -> Resu
     // The shelf holds what it held.
     ensures reads { OnlyReads H.held H.fault_count H.calm shelf.old shelf.new }
     // The answer is what the check of the files comes to, unless the shelf or memory failed.
-    ensures means { IfSome (H.held shelf.old) (λ m. Answers (MeansStates name.now m) result) }
+    ensures means { IfSome (H.held shelf.old) (λ m. AnswersWith (MeansStates name.now m) result) }
     // Where N - T valid share files lie on polynomials of degree at most T, the states are those by these polynomials,
     // whatever the other files are.
-    ensures honest { IfSome (H.held shelf.old) (λ m. (now : Now) (polys : List Polynomial) → now_of name.now m ≡ Ok now → EnoughLieOn now.n now.t (files_of now m) polys → Answers (λ end. end ≡ Ok (checked_by now (files_of now m) polys)) result) }
+    ensures honest { IfSome (H.held shelf.old) (λ m. (now : Now) (polys : List Polynomial) → HonestFiles name.now now m polys → AnswersWith (λ end. end ≡ Ok (checked_by now (files_of now m) polys)) result) }
     // A fault comes only where its count rose, and no answer of other parts comes.
     ensures cause { IfErr result (IsFromPlan (H.fault_count shelf.old) (H.fault_count shelf.new)) }
 {

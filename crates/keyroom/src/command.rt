@@ -2,11 +2,12 @@
 ghost use Rattle.std.specs.Prelude.{◌≡◌, ◌≢◌, ℕ, ◌↔◌, ◌∷◌, ◌==◌, not, eqb, IfSome, IfNone, IsTrue, codes, decimal};
 ghost use Rattle.std.specs.List.{list_all, starts_with};
 ghost use Rattle.keyroom.specs.Words.{texts, optional, ReadsAs, IsUsage, is_plain_text, ends_like_a_key_file, is_file_name};
-ghost use Rattle.sharefile.specs.Files.{is_size, is_bound};
+ghost use Rattle.sizes.specs.Committees.{is_size, is_bound};
 ghost use Rattle.keyroom.specs.Commands.{command_of, text_of};
 
-use crate::number::read_number;
+use decimals::read_u32;
 use sharefile::KeyName;
+use sizes::Committee;
 
 /// A command. Words that may be long are lent by whoever read them, so that reading takes no memory.
 #[derive(Clone, Copy, Debug)]
@@ -15,8 +16,7 @@ pub enum Command<'a> {
     /// whom some misbehave as the drill says, where one is named.
     Create {
         name: KeyName,
-        n: u32,
-        t: u32,
+        committee: Committee,
         drill: Option<&'a str>,
     },
     /// `recover NAME`: prints the members' states and the fingerprint of the key.
@@ -57,38 +57,22 @@ pub fn read_words(words: &[String]) -> Option<Command<'_>>
     }
 }
 
-/// The size of a committee that the program has, by its digits.
-fn read_size(word: &str) -> Option<u32>
-    ensures found { IfSome result (λ n. (word.now ≡ decimal n) × IsTrue (is_size n)) }
-    ensures none { IfNone result ((n : ℕ) → IsTrue (is_size n) → word.now ≢ decimal n) }
+/// The committee of a size and a bound by their digits, where a command can make it.
+fn read_committee(members: &str, bound: &str) -> Option<Committee>
+    ensures found { IfSome result (λ c. (members.now ≡ decimal c.members) × (bound.now ≡ decimal c.bound) × IsTrue (is_size c.members) × IsTrue (is_bound c.members c.bound)) }
+    ensures none { IfNone result ((n t : ℕ) → IsTrue (is_size n) → IsTrue (is_bound n t) → members.now ≡ decimal n → bound.now ≢ decimal t) }
 {
-    let n = read_number(word)?;
-    if is_size(n) { Some(n) } else { None }
-}
-
-/// How many members of `n` may be faulty, by its digits.
-fn read_bound(n: u32, word: &str) -> Option<u32>
-    requires { IsTrue (is_size n) }
-    ensures found { IfSome result (λ t. (word.now ≡ decimal t) × IsTrue (is_bound n t)) }
-    ensures none { IfNone result ((t : ℕ) → IsTrue (is_bound n t) → word.now ≢ decimal t) }
-{
-    let t = read_number(word)?;
-    if is_bound(n, t) { Some(t) } else { None }
-}
-
-/// Whether the program has committees of this size.
-fn is_size(n: u32) -> bool
-    ensures { result ≡ is_size n }
-{
-    n == 4 || n == 5 || n == 7 || n == 10 || n == 13
-}
-
-/// Whether at least one member may be faulty, and fewer than a third of all.
-fn is_bound(n: u32, t: u32) -> bool
-    requires { IsTrue (is_size n) }
-    ensures { result ≡ is_bound n t }
-{
-    1 <= t && t < n && 3 * t < n
+    let size = read_u32(members.as_bytes())?;
+    let most = read_u32(bound.as_bytes())?;
+    let committee = Committee {
+        members: size,
+        bound: most,
+    };
+    if committee.can_be_made() {
+        Some(committee)
+    } else {
+        None
+    }
 }
 
 fn create_words(rest: &[String]) -> Option<Command<'_>>
@@ -96,11 +80,13 @@ fn create_words(rest: &[String]) -> Option<Command<'_>>
     ensures none { IfNone result (IsUsage (codes "create" ∷ texts rest.now)) }
 {
     match rest {
-        [name, n, t] => create_of(name.as_str(), n.as_str(), t.as_str(), None),
-        [name, n, t, drill] if is_file_name(drill.as_str()) => create_of(
+        [name, members, bound] => {
+            create_of(name.as_str(), members.as_str(), bound.as_str(), None)
+        }
+        [name, members, bound, drill] if is_file_name(drill.as_str()) => create_of(
             name.as_str(),
-            n.as_str(),
-            t.as_str(),
+            members.as_str(),
+            bound.as_str(),
             Some(drill.as_str()),
         ),
         _ => None,
@@ -108,15 +94,23 @@ fn create_words(rest: &[String]) -> Option<Command<'_>>
 }
 
 /// The create of these words, of which the last may be left out.
-fn create_of<'a>(name: &str, n: &str, t: &str, drill: Option<&'a str>) -> Option<Command<'a>>
+fn create_of<'a>(
+    name: &str,
+    members: &str,
+    bound: &str,
+    drill: Option<&'a str>,
+) -> Option<Command<'a>>
     requires { IfSome (text_of drill) (λ file. IsTrue (is_file_name file)) }
-    ensures found { IfSome result (λ command. ReadsAs (codes "create" ∷ name.now ∷ n.now ∷ t.now ∷ optional (text_of drill.entry)) (command_of command)) }
-    ensures none { IfNone result (IsUsage (codes "create" ∷ name.now ∷ n.now ∷ t.now ∷ optional (text_of drill.entry))) }
+    ensures found { IfSome result (λ command. ReadsAs (codes "create" ∷ name.now ∷ members.now ∷ bound.now ∷ optional (text_of drill.entry)) (command_of command)) }
+    ensures none { IfNone result (IsUsage (codes "create" ∷ name.now ∷ members.now ∷ bound.now ∷ optional (text_of drill.entry))) }
 {
     let name = KeyName::from_text(name)?;
-    let n = read_size(n)?;
-    let t = read_bound(n, t)?;
-    Some(Command::Create { name, n, t, drill })
+    let committee = read_committee(members, bound)?;
+    Some(Command::Create {
+        name,
+        committee,
+        drill,
+    })
 }
 
 fn recover_words(rest: &[String]) -> Option<Command<'_>>

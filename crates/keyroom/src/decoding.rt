@@ -7,7 +7,8 @@ ghost use Rattle.keyroom.specs.Decoding.{value_in, values_in, lane_of, DecodesLa
 use crate::state::{MemberState, StateList};
 use crate::status::Status;
 use crate::steps::Found;
-use field61::{Fe, OutOfMemory};
+use field61::Fe;
+use lists::OutOfMemory;
 use poly61::{Poly, PolyList};
 use rs61::{DecodeFault, decode};
 use sharefile::{NowFile, ShareFile};

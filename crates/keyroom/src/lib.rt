@@ -5,8 +5,8 @@
 mod check;
 mod command;
 mod decoding;
+mod document;
 mod laws;
-mod number;
 mod open;
 mod plan;
 mod recover;
@@ -19,15 +19,14 @@ mod work;
 
 pub use check::{Checked, check_key, plan_check};
 pub use command::{Command, read_words};
+pub use document::{Direction, open_doc, plan_document, seal_doc};
 pub use laws::{
-    a_box_is_opened, honest_files_give_the_key, honest_files_give_the_states,
-    honest_files_open_what_was_sealed, one_check, one_opening, one_recovery, one_sealing,
-    what_was_sealed_is_opened,
+    a_box_is_opened, document_numbers_rise, honest_files_give_the_key,
+    honest_files_give_the_states, honest_files_have_a_key, honest_files_open_what_was_sealed,
+    one_check, one_recovery, one_work, what_was_sealed_is_opened,
 };
-pub use open::{open_doc, plan_open};
 pub use plan::{Change, Plan, carry_out, make_all};
 pub use recover::{Recovered, plan_recover, recover_key};
-pub use seal::{plan_seal, seal_doc};
 pub use state::{MemberState, StateList};
 pub use status::{Status, What};
 pub use steps::{check_free, get};

@@ -1,6 +1,8 @@
 //! What a command will do, made before anything is changed.
-ghost use Rattle.std.specs.Prelude.{◌≡◌, OnOk, OnErr, string_bytes};
+ghost use Rattle.std.specs.Prelude.{◌≡◌, ◌≤◌, OnOk, OnErr, string_bytes};
 ghost use Rattle.shelf.specs.Causes.{Makes, HasCause, Rose};
+ghost use Rattle.keyroom.specs.Causes.{cause_of};
+ghost use Rattle.keyroom.specs.Causes as cause;
 ghost use Rattle.keyroom.specs.Changes.{change_of, changes_of};
 ghost use Rattle.keyroom.specs.Answer.{IsChanged, IsPartWay, Carries};
 
@@ -62,9 +64,12 @@ pub fn carry_out<H: Shelf, K: Sink>(
     shelf: &mut H,
     out: &mut K,
 ) -> Status
-    ensures carried { Carries (changes_of plan.now.changes.items) (string_bytes plan.now.text) (H.held shelf.old) (H.held shelf.new) (K.told out.old) (K.told out.new) result }
-    ensures shelf_fault { result ≡ Status.ShelfFault → Rose (H.fault_count shelf.old) (H.fault_count shelf.new) }
-    ensures sink_fault { result ≡ Status.SinkFault → Rose (K.fault_count out.old) (K.fault_count out.new) }
+    ensures carried { Carries (changes_of plan.now.changes.items) (string_bytes plan.now.text) (H.held shelf.old) (H.held shelf.new) (K.told out.old) (K.told out.new) (cause_of result) }
+    ensures done { cause_of result ≡ cause.Done → result ≡ Status.Done }
+    ensures shelf_fault { cause_of result ≡ cause.Shelf → Rose (H.fault_count shelf.old) (H.fault_count shelf.new) }
+    ensures sink_fault { cause_of result ≡ cause.Sink → Rose (K.fault_count out.old) (K.fault_count out.new) }
+    ensures shelf_later { H.fault_count shelf.old ≤ H.fault_count shelf.new }
+    ensures sink_later { K.fault_count out.old ≤ K.fault_count out.new }
     ensures shelf_calm { H.calm shelf.old → H.calm shelf.new }
     ensures sink_calm { K.calm out.old → K.calm out.new }
 {

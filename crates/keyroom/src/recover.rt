@@ -3,9 +3,10 @@ ghost use Rattle.std.specs.Prelude.{◌≡◌, ℕ, List, [], length, Ok, IfOk, 
 ghost use Rattle.algebra61.specs.Polynomial.{Polynomial};
 ghost use Rattle.shelf.specs.Causes.{OnlyReads};
 ghost use Rattle.sharefile.specs.Files.{Now};
-ghost use Rattle.keyroom.specs.Steps.{now_of, files_of};
-ghost use Rattle.keyroom.specs.Decoding.{EnoughLieOn};
-ghost use Rattle.keyroom.specs.Outcome.{IsFromPlan, Answers, done};
+ghost use Rattle.keyroom.specs.Causes.{IsFromPlan};
+ghost use Rattle.keyroom.specs.Steps.{files_of};
+ghost use Rattle.keyroom.specs.Decoding.{HonestFiles};
+ghost use Rattle.keyroom.specs.Outcome.{AnswersWith, done};
 ghost use Rattle.keyroom.specs.Changes.{outcome_of};
 ghost use Rattle.keyroom.specs.Texts.{recover_text};
 ghost use Rattle.keyroom.specs.Answer.{Plans};
@@ -17,7 +18,8 @@ use crate::state::StateList;
 use crate::status::Status;
 use crate::steps::{Found, files_of, now_of};
 use crate::text;
-use field61::{Fe, OutOfMemory};
+use field61::Fe;
+use lists::OutOfMemory;
 use poly61::PolyList;
 use sharefile::{KeyName, NowFile};
 use shelf::Shelf;
@@ -58,7 +60,7 @@ pub(crate) fn recovered_from(
     files: &[Found],
 ) -> Result<Recovered, Status>
     requires { length files.now ≡ now.now.n }
-    ensures means { Answers (MeansKeyOf now.now files.now) result }
+    ensures means { AnswersWith (MeansKeyOf now.now files.now) result }
     ensures cause { IfErr result (λ s. (before now : ℕ) → IsFromPlan before now s) }
 {
     let polys = decode_all(alloc, now.t, files)?;
@@ -79,10 +81,10 @@ pub fn recover_key<H: Shelf>(
     // The shelf holds what it held.
     ensures reads { OnlyReads H.held H.fault_count H.calm shelf.old shelf.new }
     // The answer is what recovery of the files comes to, unless the shelf or memory failed.
-    ensures means { IfSome (H.held shelf.old) (λ m. Answers (MeansKey name.now m) result) }
+    ensures means { IfSome (H.held shelf.old) (λ m. AnswersWith (MeansKey name.now m) result) }
     // Where N - T valid share files lie on polynomials of degree at most T, the key is their values at 0, whatever
     // the other files are.
-    ensures honest { IfSome (H.held shelf.old) (λ m. (now : Now) (polys : List Polynomial) → now_of name.now m ≡ Ok now → EnoughLieOn now.n now.t (files_of now m) polys → Answers (λ end. end ≡ Ok (recovered_by now (files_of now m) polys)) result) }
+    ensures honest { IfSome (H.held shelf.old) (λ m. (now : Now) (polys : List Polynomial) → HonestFiles name.now now m polys → AnswersWith (λ end. end ≡ Ok (recovered_by now (files_of now m) polys)) result) }
     // A fault comes only where its count rose, and no answer of other parts comes.
     ensures cause { IfErr result (IsFromPlan (H.fault_count shelf.old) (H.fault_count shelf.new)) }
 {

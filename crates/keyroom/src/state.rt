@@ -1,11 +1,9 @@
 //! The states of a committee's members.
-ghost use Rattle.std.specs.Prelude.{◌≡◌, ◌<◌, List, [], ◌∷◌, ◌++◌, length, MatchResult, IfOk, slice_index_or};
 ghost use Rattle.keyroom.specs.Texts.{state_text};
 
-use field61::OutOfMemory;
+use lists::{List, OutOfMemory, TryCopy};
 use std::alloc::Global;
 use std::fmt;
-use std::marker::Model;
 
 /// What stands on the shelf of a member's share.
 #[derive(Clone, Copy, Debug, PartialEq, Eq)]
@@ -38,67 +36,10 @@ impl fmt::Display for MemberState {
 }
 
 /// A list of states, by member.
-#[derive(Drop)]
-pub struct StateList {
-    items: Vec<MemberState>,
-}
+pub type StateList = List<MemberState>;
 
-impl Model for StateList {
-    ghost use Rattle.std.specs.Prelude.{List};
-    ghost use Rattle.keyroom.specs.declared.state.MemberState.{MemberState};
-
-    ghost Value = { List MemberState };
-
-    ghost view = { λ a. a.items.items };
-}
-
-impl StateList {
-    /// The empty list.
-    pub fn new(alloc: Global) -> StateList
-        ensures { result ≡ [] }
-    {
-        StateList {
-            items: Vec::new(alloc),
-        }
-    }
-
-    /// Puts an item at the end. After an error, want of memory, the list is as it was.
-    pub fn push(&mut self, item: MemberState) -> Result<(), OutOfMemory>
-        ensures { MatchResult result (λ _. self.new ≡ self.old ++ item ∷ []) (λ _. self.new ≡ self.old) }
-    {
-        self.items.push(item).map_err(|_| OutOfMemory)
-    }
-
-    /// How many items there are.
-    pub fn len(&self) -> usize
-        ensures { result ≡ length self.now }
-    {
-        self.items.len()
-    }
-
-    /// The item at place `k`, from 0.
-    pub fn at(&self, k: usize) -> &MemberState
-        requires { k < length self.now }
-        ensures { result.now ≡ slice_index_or self.now k MemberState.Missing }
-    {
-        &self.items[k]
-    }
-
-    /// An equal list. The error is want of memory.
-    pub fn copy(&self, alloc: Global) -> Result<StateList, OutOfMemory>
-        ensures { IfOk result (λ copied. copied ≡ self.now) }
-    {
-        let mut copied = StateList::new(alloc);
-        for item in &self.items {
-            copied.push(*item)?;
-        }
-        Ok(copied)
-    }
-
-    /// The items.
-    pub(crate) fn as_slice(&self) -> &[MemberState]
-        ensures { result.now ≡ self.now }
-    {
-        self.items.as_slice()
+impl TryCopy for MemberState {
+    fn copy(&self, _alloc: Global) -> Result<MemberState, OutOfMemory> {
+        Ok(*self)
     }
 }

@@ -1,13 +1,15 @@
 //! What a call of the program comes to.
-ghost use Rattle.std.specs.Prelude.{◌≡◌, ◌++◌, IfOk, string_bytes, codes};
+ghost use Rattle.std.specs.Prelude.{◌≡◌, ◌≢◌, ◌++◌, IfOk, string_bytes, codes};
+ghost use Rattle.keyroom.specs.Causes.{cause_of, IsOfShelf};
 ghost use Rattle.keyroom.specs.StatusLines.{code_of, what_text, drill_text, status_line};
 
 use docvault::BoxFault;
 use drillbook::DrillFault;
-use field61::OutOfMemory;
+use lists::OutOfMemory;
 use sharefile::FileFault;
 use shelf::OutsideFault;
 use std::alloc::{AllocError, AllocFailed, Global};
+use std::io::ErrorKind;
 
 /// The thing that isn't held.
 #[derive(Clone, Copy, Debug, PartialEq, Eq)]
@@ -22,8 +24,8 @@ pub enum What {
     Box,
 }
 
-/// The answer of a command. Each but `Done` is a refusal with a number and a line of its own.
-#[derive(Clone, Copy, Debug, PartialEq, Eq)]
+/// The answer of a command. Each but `Done` has a line of its own.
+#[derive(Drop)]
 pub enum Status {
     /// All of the command's work was done.
     Done,
@@ -165,10 +167,23 @@ impl Status {
         }
     }
 
+    /// The status of words of the command line that could not be had: want of memory, or words that aren't UTF-8, which
+    /// are no command.
+    pub fn of_words(kind: ErrorKind) -> Status
+        ensures memory { kind ≡ ErrorKind.OutOfMemory → result ≡ Status.OutOfMemory }
+        ensures usage { kind ≢ ErrorKind.OutOfMemory → result ≡ Status.Usage }
+    {
+        match kind {
+            ErrorKind::OutOfMemory => Status::OutOfMemory,
+            _ => Status::Usage,
+        }
+    }
+
     /// The status of a fault of the shelf.
     pub(crate) fn of_shelf(fault: OutsideFault) -> Status
         ensures failed { fault ≡ OutsideFault.Failed → result ≡ Status.ShelfFault }
         ensures memory { fault ≡ OutsideFault.OutOfMemory → result ≡ Status.OutOfMemory }
+        ensures by { IsOfShelf (cause_of result) }
     {
         match fault {
             OutsideFault::Failed => Status::ShelfFault,

@@ -4,7 +4,8 @@ ghost use Rattle.std.specs.Option.{option_map};
 ghost use Rattle.std.specs.FinMap as map;
 ghost use Rattle.shelf.specs.Causes.{OnlyReads};
 ghost use Rattle.sharefile.specs.Reading.{now_at, share_at};
-ghost use Rattle.keyroom.specs.Outcome.{Gives, IsFromShelf, IsFromPlan};
+ghost use Rattle.keyroom.specs.Causes.{IsFromShelf, IsFromPlan};
+ghost use Rattle.keyroom.specs.Outcome.{AnswersStep};
 ghost use Rattle.keyroom.specs.Steps.{now_named, now_of, free_of, bytes_of, is_asked, share_asked, share_of, files_of};
 
 use crate::status::{Status, What};
@@ -18,7 +19,8 @@ use std::alloc::Global;
 pub(crate) enum Found {
     /// The name isn't held.
     Absent,
-    /// Bytes that are no valid share file of the member.
+    /// Bytes that are no valid share file of the member: no share file, or one of another name, member, period or
+    /// committee than the now file's.
     Invalid,
     /// The valid share file.
     Valid(ShareFile),
@@ -43,7 +45,7 @@ pub(crate) fn now_of<H: Shelf>(
     shelf: &mut H,
 ) -> Result<NowFile, Status>
     ensures reads { OnlyReads H.held H.fault_count H.calm shelf.old shelf.new }
-    ensures gives { IfSome (H.held shelf.old) (λ m. Gives (λ f. f) result (now_of name.now m)) }
+    ensures gives { IfSome (H.held shelf.old) (λ m. AnswersStep (λ f. f) result (now_of name.now m)) }
     ensures cause { IfErr result (IsFromPlan (H.fault_count shelf.old) (H.fault_count shelf.new)) }
 {
     let now_name = text::now_name(alloc, name)?;
@@ -55,7 +57,7 @@ pub(crate) fn now_of<H: Shelf>(
 
 /// The now file that these bytes are, under this name.
 fn now_from(name: &KeyName, bytes: &[u8]) -> Result<NowFile, Status>
-    ensures gives { Gives (λ f. f) result (now_named name.now (now_at bytes.now)) }
+    ensures gives { AnswersStep (λ f. f) result (now_named name.now (now_at bytes.now)) }
     ensures cause { IfErr result (λ s. (before now : ℕ) → IsFromPlan before now s) }
 {
     match read_now(bytes) {
@@ -71,7 +73,7 @@ fn now_from(name: &KeyName, bytes: &[u8]) -> Result<NowFile, Status>
 /// Sees that a name that is to be made isn't held. It refuses with `Exists` where it is.
 pub fn check_free<H: Shelf>(alloc: Global, name: &str, shelf: &mut H) -> Result<(), Status>
     ensures reads { OnlyReads H.held H.fault_count H.calm shelf.old shelf.new }
-    ensures gives { IfSome (H.held shelf.old) (λ m. Gives (λ done. done) result (free_of name.now m)) }
+    ensures gives { IfSome (H.held shelf.old) (λ m. AnswersStep (λ done. done) result (free_of name.now m)) }
     ensures cause { IfErr result (IsFromPlan (H.fault_count shelf.old) (H.fault_count shelf.new)) }
 {
     match get(alloc, name, shelf)? {
@@ -88,7 +90,7 @@ pub(crate) fn bytes_of<H: Shelf>(
     shelf: &mut H,
 ) -> Result<Vec<u8>, Status>
     ensures reads { OnlyReads H.held H.fault_count H.calm shelf.old shelf.new }
-    ensures gives { IfSome (H.held shelf.old) (λ m. Gives (λ bytes. bytes.items) result (bytes_of what name.now m)) }
+    ensures gives { IfSome (H.held shelf.old) (λ m. AnswersStep (λ bytes. bytes.items) result (bytes_of what name.now m)) }
     ensures cause { IfErr result (IsFromPlan (H.fault_count shelf.old) (H.fault_count shelf.new)) }
 {
     match get(alloc, name, shelf)? {
@@ -97,7 +99,7 @@ pub(crate) fn bytes_of<H: Shelf>(
     }
 }
 
-/// Whether this is the share file that was asked for.
+/// Whether this is the share file that was asked for, of the now file's committee.
 fn is_asked(now: &NowFile, index: u32, f: &ShareFile) -> bool
     ensures { result ≡ is_asked now.now index f.now }
 {
@@ -105,6 +107,7 @@ fn is_asked(now: &NowFile, index: u32, f: &ShareFile) -> bool
         && f.period == now.period
         && f.n == now.n
         && f.t == now.t
+        && f.committee == now.committee()
         && f.index == index
 }
 

@@ -1,15 +1,16 @@
 //! What is printed, and the names of files.
-ghost use Rattle.std.specs.Prelude.{◌≡◌, ◌≤◌, ◌++◌, length, OnOk, IfOk, string_bytes, codes, decimal};
+ghost use Rattle.std.specs.Prelude.{◌≡◌, ◌++◌, OnOk, IfOk, string_bytes, codes, decimal};
 ghost use Rattle.std.specs.List.{flat_map};
 ghost use Rattle.keyroom.specs.Names.{now_name, share_name};
-ghost use Rattle.keyroom.specs.Texts.{member_lines, hex_text, recover_text, check_text, round_lines, shares_line, create_text, seal_text, open_text};
+ghost use Rattle.keyroom.specs.Texts.{member_lines, hex_text, recover_text, check_text, round_lines, shares_line, create_text, document_text};
 
 use crate::check::Checked;
 use crate::recover::Recovered;
 use crate::state::StateList;
 use crate::work::Sealed;
 use docvault::fingerprint;
-use field61::{NumberList, OutOfMemory};
+use field61::NumberList;
+use lists::OutOfMemory;
 use sharefile::{KeyName, NowFile};
 use std::alloc::Global;
 
@@ -87,7 +88,6 @@ pub(crate) fn check_text(alloc: Global, checked: &Checked) -> Result<String, Out
 
 /// Appends a line for each round, the first being round 1.
 fn put_rounds(text: &mut String, masks: &NumberList) -> Result<(), OutOfMemory>
-    requires { length masks.now ≤ 6 }
     ensures { OnOk result (string_bytes text.new ≡ string_bytes text.old ++ round_lines 1 masks.now) }
 {
     for k in 0..masks.len() {
@@ -129,7 +129,6 @@ pub fn create_text(
     instances: u32,
     indexes: &NumberList,
 ) -> Result<String, OutOfMemory>
-    requires { length masks.now ≤ 6 }
     ensures { IfOk result (λ s. string_bytes s ≡ create_text now.now masks.now accepted instances indexes.now) }
 {
     let name = &now.name;
@@ -144,32 +143,18 @@ pub fn create_text(
     Ok(text)
 }
 
-/// The text of `seal`.
-pub(crate) fn seal_text(
+/// The text of `seal` or `open`, by the command's word.
+pub(crate) fn document_text(
     alloc: Global,
+    verb: &str,
     name: &KeyName,
     sealed: &Sealed,
 ) -> Result<String, OutOfMemory>
-    ensures { IfOk result (λ s. string_bytes s ≡ seal_text name.now sealed.now.number sealed.now.bytes) }
+    ensures { IfOk result (λ s. string_bytes s ≡ document_text verb.now name.now sealed.now.number sealed.now.bytes) }
 {
     let number = sealed.number;
     let bytes = sealed.bytes;
     let mut text = String::new(alloc);
-    writeln!(text, "seal {name} number {number} bytes {bytes}")?;
-    Ok(text)
-}
-
-/// The text of `open`.
-pub(crate) fn open_text(
-    alloc: Global,
-    name: &KeyName,
-    sealed: &Sealed,
-) -> Result<String, OutOfMemory>
-    ensures { IfOk result (λ s. string_bytes s ≡ open_text name.now sealed.now.number sealed.now.bytes) }
-{
-    let number = sealed.number;
-    let bytes = sealed.bytes;
-    let mut text = String::new(alloc);
-    writeln!(text, "open {name} number {number} bytes {bytes}")?;
+    writeln!(text, "{verb} {name} number {number} bytes {bytes}")?;
     Ok(text)
 }

@@ -65,12 +65,3 @@ pub fn read_seed(alloc: Global, text: &str) -> Result<Option<[u8; 32]>, AllocErr
         Err(_) => Ok(None),
     }
 }
-
-/// The number with these decimal digits: at least one, and no zero in front of others.
-pub fn read_number(text: &str) -> Option<u64> {
-    let is_plain = text.bytes().all(|digit| digit.is_ascii_digit());
-    if !is_plain || (text.len() > 1 && text.starts_with('0')) {
-        return None;
-    }
-    text.parse::<u64>().ok()
-}

@@ -1,6 +1,6 @@
 //! Why a line or a case could not be read or run.
 
-use field61::OutOfMemory;
+use lists::OutOfMemory;
 use shelf::OutsideFault;
 use std::alloc::{AllocError, AllocFailed};
 use std::error::Error;

@@ -1,8 +1,9 @@
 //! Lines of the input.
 
 use crate::case::{File, Given};
-use crate::digits::{read_digits, read_number, read_seed};
+use crate::digits::{read_digits, read_seed};
 use crate::fault::Fault;
+use decimals::read_u64;
 use std::alloc::{AllocError, Global};
 
 /// One line of the input.
@@ -72,7 +73,7 @@ fn copies(alloc: Global, words: &[&str]) -> Result<Vec<String>, AllocError> {
 fn numbers(alloc: Global, words: &[&str]) -> Result<Vec<u64>, Fault> {
     let mut numbers = Vec::new(alloc);
     for word in words {
-        let Some(number) = read_number(*word) else {
+        let Some(number) = read_u64(word.as_bytes()) else {
             return Err(Fault::OtherForm);
         };
         numbers.push(number)?;

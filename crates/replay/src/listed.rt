@@ -7,7 +7,8 @@ use shelf::{MemoryShelf, OutsideFault, Shelf};
 use std::alloc::Global;
 use std::collections::BTreeSet;
 
-/// A shelf in memory that remembers each name which was ever put, and otherwise is that shelf.
+/// A shelf in memory that remembers each name which was ever put, and otherwise is that shelf. It doesn't tell which
+/// calls fail, since a put that finds no memory for its name makes no call of the shelf.
 #[derive(Drop)]
 pub struct ListedShelf {
     shelf: MemoryShelf,

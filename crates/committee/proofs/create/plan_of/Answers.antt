@@ -1,13 +1,16 @@
-use Rattle.std.proofs.Common.{◌∙◌, ap, subst}
+use Rattle.std.proofs.Common.{◌≡◌, ◌∙◌, ◌*◌, ℕ, List, ap}
 use Rattle.sharefile.specs.Files.{Now}
-use Rattle.jointkey.specs.Create.{create_shape}
-use Rattle.committee.specs.Phase.{IsPhase, changes_with}
+use Rattle.drillbook.specs.Orders.{names}
+use Rattle.keyroom.specs.Texts.{create_text}
+use Rattle.committee.specs.Links.{first_link}
+use Rattle.committee.specs.Create.{first_now}
+use Rattle.committee.specs.Phase.{changes_with, indexes_of}
 use Rattle.committee.proofs.Planned.{planned}
 use Rattle.committee.proofs.create.plan_of.Goals as goal
 
 pub returns : goal.returns
 returns c =
-    planned c.args.now.now c.args.drill.now c.args.seeds.now c.in_ok-phase.phase _ _
-    (subst (λ (f : Now). IsPhase (create_shape f.n f.t) c.args.drill.now c.args.seeds.now c.in_ok-phase.phase) c.now.view_is c.in_ok-phase.ensures)
-    (c.in_ok-changes.ensures ∙ ap (changes_with c.args.now.now) c.deref.ensures.value)
-    c.in_ok-text.ensures
+    let made : Now = first_now c.args.name.now c.args.committee.members c.args.committee.bound (first_link c.args.name.now c.args.committee.members c.args.committee.bound (names c.args.drill.now)) in
+    planned made c.args.drill.now c.args.seeds.now c.in_ok-phase.phase _ _ c.in_ok-phase.ensures
+    (c.in_ok-changes.ensures ∙ ap (changes_with c.first_now-now.result) c.deref.ensures.value ∙ ap (λ (f : Now). changes_with f c.in_ok-phase.phase.shares.items) c.first_now-now.ensures)
+    (c.in_ok-text.ensures ∙ ap (λ (f : Now). create_text f c.in_ok-phase.phase.masks c.in_ok-phase.phase.accepted (5 * f.n) (indexes_of 1 c.in_ok-phase.phase.shares.items)) c.first_now-now.ensures)

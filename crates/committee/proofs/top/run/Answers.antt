@@ -1,10 +1,11 @@
-use Rattle.std.proofs.Common.{refl, ap, Err}
+use Rattle.std.proofs.Common.{refl, arith}
 use Rattle.keyroom.specs.Words.{texts}
 use Rattle.keyroom.specs.Commands.{command_of}
-use Rattle.keyroom.specs.Changes.{outcome_of}
+use Rattle.keyroom.specs.Changes.{changes_of, outcome_of}
+use Rattle.std.specs.Prelude.{string_bytes}
 use Rattle.committee.specs.Meaning.{Means, AskForSeeds}
-use Rattle.committee.proofs.Doing.{if_told, if_both, does_then, read_under, refused_does}
-use Rattle.committee.proofs.Creating.{run_on_one_line}
+use Rattle.committee.proofs.Doing.{if_told, does_then, read_under, refused_does, completes, written, never_rose, carries_no_entropy, usage_whole}
+use Rattle.committee.proofs.Creating.{run_on_one_line, run_stopped}
 use Rattle.committee.proofs.Plain.{run_plain}
 use Rattle.committee.proofs.Recovery.{run_honestly, no_command}
 use Rattle.committee.proofs.top.run.Goals as goal
@@ -19,8 +20,23 @@ returns-in-Ok-clause-meaning g c =
     (outcome_of plans.0 c.in-Ok.plan) (read_under (texts c.args.words.now) (record { held = m; coming = g.E.Entropy.coming c.args.entropy.now }) (command_of c.in-Some.command) (outcome_of plans.0 c.in-Ok.plan) c.in-Some.ensures.found plans.1) refl plans.2 _ _ c.in-Ok.ensures.reads.same c.carry_out.ensures.carried)
     c.in-Ok.ensures.meaning
 
+pub returns-in-Ok-clause-complete : goal.returns-in-Ok-clause-complete
+returns-in-Ok-clause-complete g c =
+    if_told (g.H.Shelf.held c.args.shelf.now)
+    (λ m does. λ shelf entropy sink enough.
+    let mid = c.in-Ok.ensures.reads.stays_calm shelf in
+    completes (Means (texts c.args.words.now) (record { held = m; coming = g.E.Entropy.coming c.args.entropy.now })) (AskForSeeds (texts c.args.words.now) m) _ _ c.carry_out.result c.carry_out.ensures.done
+    (λ e. never_rose _ _ (g.met.H.Shelf.calm_has_no_faults _ mid) (g.met.H.Shelf.calm_has_no_faults _ (c.carry_out.ensures.shelf_calm mid)) (c.carry_out.ensures.shelf_fault e))
+    (λ e. carries_no_entropy (changes_of c.in-Ok.plan.changes.items) (string_bytes c.in-Ok.plan.text) (g.H.Shelf.held c.plan.new.shelf) (g.H.Shelf.held c.carry_out.new.shelf) (g.K.Sink.told c.args.out.now) (g.K.Sink.told c.carry_out.new.out) _ c.carry_out.ensures.carried e)
+    (λ e. never_rose _ _ (g.met.K.Sink.calm_has_no_faults _ sink) (g.met.K.Sink.calm_has_no_faults _ (c.carry_out.ensures.sink_calm sink)) (c.carry_out.ensures.sink_fault e))
+    does)
+    (returns-in-Ok-clause-meaning g c)
+
 pub returns-in-Ok-clause-agreement : goal.returns-in-Ok-clause-agreement
 returns-in-Ok-clause-agreement g c = λ made. run_on_one_line (texts c.args.words.now) _ _ _ _ c.carry_out.result _ _ (returns-in-Ok-clause-meaning g c) made
+
+pub returns-in-Ok-clause-stopped : goal.returns-in-Ok-clause-stopped
+returns-in-Ok-clause-stopped g c = run_stopped (texts c.args.words.now) _ _ _ _ c.carry_out.result _ _ (returns-in-Ok-clause-meaning g c)
 
 pub returns-in-Ok-clause-plain : goal.returns-in-Ok-clause-plain
 returns-in-Ok-clause-plain g c = λ made. run_plain (texts c.args.words.now) _ _ _ _ c.carry_out.result _ _ (returns-in-Ok-clause-meaning g c) made
@@ -28,15 +44,33 @@ returns-in-Ok-clause-plain g c = λ made. run_plain (texts c.args.words.now) _ _
 pub returns-in-Ok-clause-honest : goal.returns-in-Ok-clause-honest
 returns-in-Ok-clause-honest g c = run_honestly (texts c.args.words.now) _ _ _ _ c.carry_out.result _ _ (returns-in-Ok-clause-meaning g c)
 
+pub returns-in-Ok-clause-writes : goal.returns-in-Ok-clause-writes
+returns-in-Ok-clause-writes g c = written (changes_of c.in-Ok.plan.changes.items) (string_bytes c.in-Ok.plan.text) _ _ _ _ c.carry_out.result c.carry_out.ensures.carried
+
 pub returns-in-Err-clause-meaning : goal.returns-in-Err-clause-meaning
 returns-in-Err-clause-meaning g c =
-    if_both (g.H.Shelf.held c.args.shelf.now)
-    (λ m h asks. refused_does (texts c.args.words.now) (record { held = m; coming = g.E.Entropy.coming c.args.entropy.now }) (command_of c.in-Some.command) c.in-Some.ensures.found
-    (g.H.Shelf.held c.args.shelf.now) (g.H.Shelf.held c.plan.new.shelf) (g.E.Entropy.coming c.plan.new.entropy) (g.K.Sink.told c.args.out.now) c.in-Err.ensures.reads.same _ _ _ _ c.in-Err.status c.in-Err.ensures.cause h (λ e. asks (ap Err e)))
-    c.in-Err.ensures.meaning c.in-Err.ensures.asks
+    if_told (g.H.Shelf.held c.args.shelf.now)
+    (λ m h. refused_does (texts c.args.words.now) (record { held = m; coming = g.E.Entropy.coming c.args.entropy.now }) (command_of c.in-Some.command) c.in-Some.ensures.found
+    (g.H.Shelf.held c.args.shelf.now) (g.H.Shelf.held c.plan.new.shelf) (g.E.Entropy.coming c.plan.new.entropy) (g.K.Sink.told c.args.out.now) c.in-Err.ensures.reads.same c.in-Err.status h)
+    c.in-Err.ensures.meaning
+
+pub returns-in-Err-clause-complete : goal.returns-in-Err-clause-complete
+returns-in-Err-clause-complete g c =
+    if_told (g.H.Shelf.held c.args.shelf.now)
+    (λ m does. λ shelf entropy sink enough.
+    completes (Means (texts c.args.words.now) (record { held = m; coming = g.E.Entropy.coming c.args.entropy.now })) (AskForSeeds (texts c.args.words.now) m) _ _ c.in-Err.status
+    (λ e. absurd (c.in-Err.ensures.cause.undone e))
+    (λ e. never_rose _ _ (g.met.H.Shelf.calm_has_no_faults _ shelf) (g.met.H.Shelf.calm_has_no_faults _ (c.in-Err.ensures.reads.stays_calm shelf)) (c.in-Err.ensures.cause.counted.shelf e))
+    (λ e. never_rose _ _ (g.met.E.Entropy.calm_has_no_faults _ entropy) (g.met.E.Entropy.calm_has_no_faults _ (c.in-Err.ensures.calm entropy (enough (command_of c.in-Some.command) c.in-Some.ensures.found))) (c.in-Err.ensures.cause.counted.entropy e))
+    (λ e. never_rose 0 0 refl refl (c.in-Err.ensures.cause.counted.sink e))
+    does)
+    (returns-in-Err-clause-meaning g c)
 
 pub returns-in-Err-clause-honest : goal.returns-in-Err-clause-honest
 returns-in-Err-clause-honest g c = run_honestly (texts c.args.words.now) _ _ _ _ c.in-Err.status _ _ (returns-in-Err-clause-meaning g c)
+
+pub returns-in_default-clause-complete : goal.returns-in_default-clause-complete
+returns-in_default-clause-complete g c = usage_whole (texts c.args.words.now) (g.H.Shelf.held c.args.shelf.now) (g.E.Entropy.coming c.args.entropy.now) (g.K.Sink.told c.args.out.now) _ _ _ _ c.in_default.ensures.none
 
 pub returns-in_default-clause-honest : goal.returns-in_default-clause-honest
 returns-in_default-clause-honest g c =

@@ -1,9 +1,8 @@
 use Rattle.keyroom.specs.Words.{optional}
 use Rattle.keyroom.specs.Commands.{text_of}
-use Rattle.keyroom.proofs.Creates.{no_bound, if_none}
+use Rattle.keyroom.proofs.Creates.{no_committee, if_none}
 use Rattle.keyroom.proofs.command.create_of.Goals as goal
 
-pub returns-in_err-t-clause-none : goal.returns-in_err-t-clause-none
-returns-in_err-t-clause-none c =
-    if_none c.from_residual-in_err-t.result
-    (no_bound c.args.name.now c.args.n.now c.args.t.now (optional (text_of c.args.drill)) c.in_ok-n.n c.in_ok-n.ensures.found.0 c.in_ok-n.ensures.found.1 c.in_err-t.ensures.none)
+pub returns-in_err-committee-clause-none : goal.returns-in_err-committee-clause-none
+returns-in_err-committee-clause-none c =
+    if_none c.from_residual-in_err-committee.result (no_committee c.args.name.now c.args.members.now c.args.bound.now (optional (text_of c.args.drill)) c.in_err-committee.ensures.none)
