@@ -1,6 +1,6 @@
 -- Elements and grids drawn from the words of ChaCha with 20 rounds (RFC 8439, 2.3), the seed as its key, stream 0.
 -- A place is the number of a word. Each draw says what was drawn and the place after the last word that was used.
-use Rattle.std.specs.Prelude.{ℕ, zero, suc, ◌+◌, ◌*◌, ◌%◌, ◌^◌, ◌==◌, Bool, true, false, List, [], ◌∷◌}
+use Rattle.std.specs.Prelude.{ℕ, zero, suc, ◌+◌, ◌-◌, ◌*◌, ◌%◌, ◌^◌, ◌==◌, Bool, true, false, List, [], ◌∷◌}
 use Rattle.rand_chacha.specs.ChaCha.{word_at, key_of}
 use Rattle.algebra61.specs.Field.{Fp, fe, Prime, zeroₚ}
 use Rattle.bivar61.specs.Grids.{grid_of}
@@ -50,6 +50,15 @@ module _ {A : Type 0} where
       let rest = drawn_in_turn draw n first.1 in
       (first.0 ∷ rest.0, rest.1)
 
+module _ {A B : Type 0} where
+  -- a draw for each of the items, one after another; a draw is given its item and the place at which it begins
+  abbrev pub drawn_for : (B → ℕ → A × ℕ) → List B → ℕ → List A × ℕ
+  drawn_for draw [] place = ([], place)
+  drawn_for draw (item ∷ items) place =
+      let first = draw item place in
+      let rest = drawn_for draw items first.1 in
+      (first.0 ∷ rest.0, rest.1)
+
 -- n elements
 unfoldable pub elements_drawn : ℕ → List ℕ → ℕ → List Fp × ℕ
 elements_drawn n seed place = drawn_in_turn (element_drawn seed) n place
@@ -67,3 +76,17 @@ five_grids_drawn d seed place = drawn_in_turn (grid_drawn d seed) 5 place
 -- the five grids of a member, lane by lane, from a fresh seed
 abbrev pub grids_drawn : ℕ → List ℕ → List (List (List Fp))
 grids_drawn d seed = (five_grids_drawn d seed 0).0
+
+-- a grid of degree d with a given constant: the other elements alone are drawn, in the order of the list of a grid
+unfoldable pub grid_drawn_with : ℕ → List ℕ → Fp → ℕ → List (List Fp) × ℕ
+grid_drawn_with d seed constant place =
+    let others = elements_drawn ((d + 1) * (d + 1) - 1) seed place in
+    (grid_of d (constant ∷ others.0), others.1)
+
+-- grids of degree d with given constants, one for each lane
+unfoldable pub five_grids_drawn_with : ℕ → List Fp → List ℕ → ℕ → List (List (List Fp)) × ℕ
+five_grids_drawn_with d constants seed place = drawn_for (grid_drawn_with d seed) constants place
+
+-- those of a member, lane by lane, from a fresh seed
+abbrev pub grids_drawn_with : ℕ → List Fp → List ℕ → List (List (List Fp))
+grids_drawn_with d constants seed = (five_grids_drawn_with d constants seed 0).0

@@ -1,10 +1,11 @@
 //! Field elements and grids drawn from the words of ChaCha20.
 #![tactic(auto)]
 
-ghost use Rattle.std.specs.Prelude.{◌≡◌, ℕ, ◌+◌, ◌*◌, ◌≤◌, ◌<◌, ◌^◌, List, length, IfOk, OnErr, All};
-ghost use Rattle.algebra61.specs.Field.{Fp};
+ghost use Rattle.std.specs.Prelude.{◌≡◌, ℕ, ◌+◌, ◌*◌, ◌≤◌, ◌<◌, ◌^◌, ◌++◌, List, [], length, get_or, IfOk, OnErr, All};
+ghost use Rattle.algebra61.specs.Field.{Fp, zeroₚ};
+ghost use Rattle.algebra61.specs.Grid.{grid_at};
 ghost use Rattle.bivar61.specs.Grids.{IsGrid};
-ghost use Rattle.chance61.specs.Draws.{Source, candidate, two_after, element_drawn, elements_drawn, grid_drawn, five_grids_drawn};
+ghost use Rattle.chance61.specs.Draws.{Source, candidate, two_after, element_drawn, elements_drawn, grid_drawn, five_grids_drawn, grid_drawn_with, five_grids_drawn_with};
 
 use bivar61::{Grid, GridList};
 use field61::{Fe, FeList};
@@ -95,16 +96,15 @@ impl Chance {
         Fe::ZERO
     }
 
-    // The next elements.
-    fn draw_elements(&mut self, alloc: Global, count: usize) -> Result<FeList, OutOfMemory>
+    // The elements, with as many of the next ones behind them.
+    fn draw_behind(&mut self, mut elements: FeList, count: usize) -> Result<FeList, OutOfMemory>
         ensures elements { IfOk result (λ l.
-            l ≡ (elements_drawn count self.old.seed self.old.taken).0) }
+            l ≡ elements ++ (elements_drawn count self.old.seed self.old.taken).0) }
         ensures after { IfOk result (λ _. self.new ≡ record {
           seed = self.old.seed;
           taken = (elements_drawn count self.old.seed self.old.taken).1;
         }) }
     {
-        let mut elements = FeList::new(alloc);
         for _drawn in 0..count {
             elements.push(self.draw())?;
         }
@@ -125,7 +125,7 @@ impl Chance {
     {
         let mut ahead = self.copy()?;
         let width = d as usize + 1;
-        let elements = ahead.draw_elements(alloc, width * width)?;
+        let elements = ahead.draw_behind(FeList::new(alloc), width * width)?;
         let grid = Grid::from_elements(alloc, d, elements.as_slice())?;
         *self = ahead;
         Ok(grid)
@@ -148,6 +148,60 @@ impl Chance {
         let mut grids = GridList::new(alloc);
         for _lane in 0..LANES {
             grids.push(ahead.draw_grid(alloc, d)?)?;
+        }
+        *self = ahead;
+        Ok(grids)
+    }
+
+    // A grid of the degree with this constant, whose other elements are drawn.
+    fn draw_grid_with(
+        &mut self,
+        alloc: Global,
+        degree: u32,
+        constant: Fe,
+    ) -> Result<Grid, OutOfMemory>
+        requires { degree ≤ 14 }
+        ensures grid { IfOk result (λ g. g ≡ (grid_drawn_with degree self.old.seed constant self.old.taken).0) }
+        ensures shape { IfOk result (IsGrid degree) }
+        ensures after { IfOk result (λ _. self.new ≡ record {
+          seed = self.old.seed;
+          taken = (grid_drawn_with degree self.old.seed constant self.old.taken).1;
+        }) }
+    {
+        let width = degree as usize + 1;
+        let mut elements = FeList::new(alloc);
+        elements.push(constant)?;
+        let elements = self.draw_behind(elements, width * width - 1)?;
+        let made = Grid::from_elements(alloc, degree, elements.as_slice())?;
+        Ok(made)
+    }
+
+    /// Five grids of the degree, at most 14, one for each lane of a key, with given constants: in each lane the
+    /// other elements are drawn, in the order in which `Grid::from_elements` takes them. After `OutOfMemory` no
+    /// word was taken.
+    pub fn draw_grids_with(
+        &mut self,
+        alloc: Global,
+        degree: u32,
+        constants: &[Fe; 5],
+    ) -> Result<GridList, OutOfMemory>
+        requires { degree ≤ 14 }
+        ensures grids { IfOk result (λ l.
+            l ≡ (five_grids_drawn_with degree constants.now self.old.seed self.old.taken).0) }
+        ensures five { IfOk result (λ l. length l ≡ 5) }
+        ensures shapes { IfOk result (All (IsGrid degree)) }
+        ensures constants { IfOk result (λ l. (lane : ℕ) → lane < 5
+            → grid_at (get_or l lane []) zeroₚ zeroₚ ≡ get_or constants.now lane zeroₚ) }
+        ensures after { IfOk result (λ _. self.new ≡ record {
+          seed = self.old.seed;
+          taken = (five_grids_drawn_with degree constants.now self.old.seed self.old.taken).1;
+        }) }
+        ensures kept { OnErr result (self.new ≡ self.old) }
+    {
+        let mut ahead = self.copy()?;
+        let mut grids = GridList::new(alloc);
+        for constant in constants {
+            grids.push(ahead.draw_grid_with(alloc, degree, *constant)?)?;
         }
         *self = ahead;
         Ok(grids)
@@ -187,6 +241,36 @@ mod tests {
         assert_eq!(rt;
             grids.at(1).at(Fe::ZERO, Fe::ZERO).get(),
             0x08bd_8653_e56a_5d40
+        );
+        Ok(())
+    }
+
+    // The constants 11 to 15.
+    fn constants() -> [Fe; 5] {
+        [
+            Fe::reduce(11),
+            Fe::reduce(12),
+            Fe::reduce(13),
+            Fe::reduce(14),
+            Fe::reduce(15),
+        ]
+    }
+
+    // The first draws are the coefficients of y and of x in the first lane.
+    #[test]
+    fn given_constants_are_not_drawn(rt: HostRuntime) -> Result<(), Fail> {
+        let mut chance = Chance::from_seed([0; 32]);
+        let grids = chance.draw_grids_with(rt.alloc(), 1, &constants())?;
+        assert_eq!(rt; grids.len(), 5);
+        assert_eq!(rt; grids.at(0).at(Fe::ZERO, Fe::ZERO).get(), 11);
+        assert_eq!(rt; grids.at(4).at(Fe::ZERO, Fe::ZERO).get(), 15);
+        assert_eq!(rt;
+            grids.at(0).at(Fe::ZERO, Fe::ONE).get(),
+            0x103d_f1a0_ade0_b876 + 11
+        );
+        assert_eq!(rt;
+            grids.at(0).at(Fe::ONE, Fe::ZERO).get(),
+            0x08bd_8653_e56a_5d40 + 11
         );
         Ok(())
     }

@@ -9,7 +9,7 @@ ghost use Rattle.chance61.specs.Draws.{five_grids_drawn};
 ghost use Rattle.members.specs.Member.{member_at, member_word, member_after_say, member_after_hear};
 ghost use Rattle.members.specs.Shares.{IsDone, member_shares, accepted_in};
 ghost use Rattle.members.proofs.Turns.{says_after};
-ghost use Rattle.jointkey.specs.Create.{MadeFor};
+ghost use Rattle.sharer.specs.Sharer.{MadeFor};
 ghost use Rattle.talk.specs.Shape.{create_shape};
 
 use bivar61::GridList;
@@ -98,8 +98,9 @@ impl<const N: usize> Create<N> {
         }) }
         ensures kept { OnErr result (chance.new ≡ chance.old) }
     {
-        let grids = chance.draw_grids(alloc, t)?;
-        Ok(Create::made(t, me, grids))
+        let setting = Setting::create(N as u32, t);
+        let inner = Sharer::drawing(alloc, setting, me, chance)?;
+        Ok(Create { inner })
     }
 
     /// The same with given grids, all of degree `t`, lane by lane. It takes no memory, and always answers `Ok`.
@@ -115,20 +116,9 @@ impl<const N: usize> Create<N> {
         requires grids { FiveGrids t grids }
         ensures { result ≡ Result.Ok (member_at (create_shape N t) me grids) }
     {
-        Ok(Create::made(t, me, grids))
-    }
-
-    // The member before the first round.
-    fn made(t: u32, me: u32, grids: GridList) -> Create<N>
-        requires small { N ≤ 15 }
-        requires bound { (1 ≤ t) × (3 * t < N) }
-        requires member { (1 ≤ me) × (me ≤ N) }
-        requires grids { FiveGrids t grids }
-        ensures { result ≡ member_at (create_shape N t) me grids }
-    {
-        Create {
+        Ok(Create {
             inner: Sharer::dealing(Setting::create(N as u32, t), me, grids),
-        }
+        })
     }
 
     /// Its shares in the end, lane by lane: in each the sum over the dealers of the row's value at 0, which is 0 in an

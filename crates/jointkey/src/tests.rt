@@ -9,7 +9,7 @@ ghost use Rattle.vss_core.specs.States.{FiveGrids};
 ghost use Rattle.members.specs.Laws.{EndAsPlay, HonestInMasks};
 ghost use Rattle.members.specs.Member.{member_ways};
 ghost use Rattle.members.specs.Shares.{IsDone};
-ghost use Rattle.jointkey.specs.Create.{MadeFor};
+ghost use Rattle.sharer.specs.Sharer.{MadeFor};
 ghost use Rattle.talk.specs.Shape.{create_shape};
 
 use super::*;

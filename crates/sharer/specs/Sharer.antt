@@ -1,7 +1,8 @@
--- What a sharer may be told, and what may be read of how far it has come.
-use Rattle.std.specs.Prelude.{ℕ, List, Option, Some, None}
+-- What a sharer may be told, what may be read of how far it has come, and for what a mind that holds one is made.
+use Rattle.std.specs.Prelude.{◌≡◌, ℕ, List, Option, Some, None}
 use Rattle.talk.specs.declared.messages.Post.{Post}
 use Rattle.talk.specs.declared.messages.Heard.{Heard}
+use Rattle.talk.specs.Shape.{Shape}
 use Rattle.talk.specs.Hears.{Fits}
 use Rattle.plays.specs.Stage.{Stage, AtReady, AtDealt, AtCrossed, AtComplained, AtRevealed, AtDone, IsTurn}
 use Rattle.members.specs.Member.{Member}
@@ -38,3 +39,7 @@ fourth_in (AtCrossed pairs complaints) = None
 fourth_in (AtComplained pairs third) = None
 fourth_in (AtRevealed pairs fourth votes) = Some fourth
 fourth_in (AtDone pairs accepted) = None
+
+-- a mind whose phase has no sixth round is made for its member's setting, of five rounds, and its member's seat
+abbrev pub MadeFor : Member → Shape → ℕ → Type 0
+MadeFor m s seat = (m.shape ≡ s) × (m.seat ≡ seat) × (s.checks ≡ 0)

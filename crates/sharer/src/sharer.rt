@@ -9,6 +9,7 @@ ghost use Rattle.plays.specs.Play.{seat_of};
 ghost use Rattle.plays.specs.Seat.{pair_at};
 ghost use Rattle.plays.specs.Stage.{AtReady};
 ghost use Rattle.vss_core.specs.States.{FiveGrids, IsDealer, IsReceiver};
+ghost use Rattle.chance61.specs.Draws.{five_grids_drawn};
 ghost use Rattle.members.specs.Member.{member_at, member_word, member_after_hear};
 ghost use Rattle.members.specs.Shares.{IsDone, accepted_in, answers_in, kept_in, member_shares};
 ghost use Rattle.sharer.specs.Sharer.{MayHear, fourth_in, round_of, third_in};
@@ -21,6 +22,7 @@ use crate::steps::next;
 use crate::sums::{accepted_of, lane_shares};
 use crate::turn::Turn;
 use bivar61::GridList;
+use chance61::Chance;
 use field61::Fe;
 use lists::OutOfMemory;
 use std::alloc::Global;
@@ -68,6 +70,26 @@ impl Sharer {
             },
             at: start(&setting, seat),
         }
+    }
+
+    /// The same with five grids of the setting's degree that are drawn from a source, lane by lane. After `OutOfMemory` no
+    /// word was taken.
+    pub fn drawing(
+        alloc: Global,
+        setting: Setting,
+        seat: u32,
+        chance: &mut Chance,
+    ) -> Result<Sharer, OutOfMemory>
+        requires { IsDealer setting seat }
+        ensures is { IfOk result (λ m. m ≡ member_at setting seat (five_grids_drawn setting.degree chance.old.seed chance.old.taken).0) }
+        ensures after { OnOk result (chance.new ≡ record {
+          seed = chance.old.seed;
+          taken = (five_grids_drawn setting.degree chance.old.seed chance.old.taken).1;
+        }) }
+        ensures kept { OnErr result (chance.new ≡ chance.old) }
+    {
+        let grids = chance.draw_grids(alloc, setting.degree())?;
+        Ok(Sharer::dealing(setting, seat, grids))
     }
 
     /// Before the first round, on the seat of a receiver behind the dealers: it deals nothing.

@@ -1,4 +1,4 @@
-use Rattle.std.proofs.Common.{◌≡◌, ◌+◌, ◌*◌, ◌%◌, ap, ap₂, ◌∙◌, refl}
+use Rattle.std.proofs.Common.{◌+◌, ◌*◌, ◌%◌, ap, ap₂, ◌∙◌, refl}
 use Rattle.chance61.specs.Draws.{Source, candidate}
 use Rattle.chance61.proofs.DrawLemmas.{candidate_is}
 use Rattle.chance61.proofs.Chance.candidate.Goals as goal

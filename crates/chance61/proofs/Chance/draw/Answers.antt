@@ -1,4 +1,4 @@
-use Rattle.std.proofs.Common.{◌≡◌, ◌-◌, ◌+◌, ◌≤◌, ℕ, ap, sym, ◌∙◌, refl, subst, arith}
+use Rattle.std.proofs.Common.{◌≡◌, ◌-◌, ◌+◌, ◌≤◌, ℕ, ap, sym, ◌∙◌, refl, subst}
 use Rattle.algebra61.specs.Field.{Fp, Prime, zeroₚ}
 use Rattle.chance61.specs.Draws.{Source, candidate, two_after, drawn_within, element_drawn}
 use Rattle.chance61.proofs.DrawLemmas.{draw_ends, draw_goes_on, draw_gives_up, source_same}

@@ -1,4 +1,4 @@
-use Rattle.std.proofs.Common.{◌≡◌, ◌-◌, ◌+◌, ◌++◌, ◌∷◌, [], List, ℕ, All, ap, sym, ◌∙◌, refl, subst, arith}
+use Rattle.std.proofs.Common.{◌≡◌, ◌-◌, ◌+◌, ◌++◌, List, All, ap, sym, ◌∙◌, subst, arith}
 use Rattle.algebra61.specs.Field.{Fp}
 use Rattle.bivar61.specs.Grids.{IsGrid}
 use Rattle.chance61.specs.Draws.{Source, drawn_in_turn, grid_drawn, five_grids_drawn}

@@ -2,7 +2,7 @@ use Rattle.std.proofs.Common.{sym, subst}
 use Rattle.talk.specs.Part.{part_made_for}
 use Rattle.talk.specs.Hears.{Seated}
 use Rattle.talk.specs.Shape.{Shape}
-use Rattle.jointkey.specs.Create.{MadeFor}
+use Rattle.sharer.specs.Sharer.{MadeFor}
 use Rattle.jointkey.proofs.tests.created_by_three.Goals as goal
 
 pub drive-requires-clause-made : goal.drive-requires-clause-made

@@ -1,5 +1,5 @@
--- The grids that a seat of a create draws, and what it may be told.
-use Rattle.std.proofs.Common.{◌≡◌, ℕ, zero, suc, ◌+◌, ◌≤◌, List, length, All, true, refl, sym, ap, ◌∙◌, subst, arith}
+-- The grids that a seat draws.
+use Rattle.std.proofs.Common.{◌≡◌, ℕ, zero, suc, List, length, All, refl, ap, ◌∙◌}
 use Rattle.algebra61.specs.Field.{Fp}
 use Rattle.bivar61.specs.Grids.{IsGrid}
 use Rattle.chance61.specs.Draws.{drawn_in_turn, grid_drawn, five_grids_drawn}
