@@ -1,0 +1,12 @@
+-- What is in a member that keeps its old shares.
+use Rattle.std.specs.Prelude.{◌≡◌, true}
+use Rattle.talk.specs.Shape.{receives}
+use Rattle.periods.specs.Keeper.{Keeper}
+use Rattle.zeroshare.specs.declared.keeping.Keeping.TheInside.{Inside}
+
+abbrev pub view_keeping : Inside → Keeper
+view_keeping a = record { member = a.sharer; old = a.old }
+
+-- a receiver sits on its seat
+abbrev pub Receives : Inside → Type 0
+Receives a = receives a.sharer.shape a.sharer.seat ≡ true

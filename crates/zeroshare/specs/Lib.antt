@@ -1,0 +1,3 @@
+pub mod Refresh
+pub mod KeepingView
+pub mod View
