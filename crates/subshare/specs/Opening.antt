@@ -1,8 +1,8 @@
 -- What opening a lane answers.
-use Rattle.std.specs.Prelude.{ℕ, ◌<◌, List, Result, Ok, Err}
+use Rattle.std.specs.Prelude.{◌≡◌, ℕ, ◌+◌, ◌<◌, ◌≤◌, List, [], length, Option, Result, Ok, Err}
 use Rattle.algebra61.specs.Field.{Fp}
 use Rattle.algebra61.specs.Polynomial.{Polynomial}
-use Rattle.algebra61.specs.Nearest.{IsNearest}
+use Rattle.algebra61.specs.Nearest.{present, wrong, IsNearest}
 use Rattle.talk.specs.declared.messages.Post.{Post}
 use Rattle.talk.specs.Shape.{Shape}
 use Rattle.plays.specs.Play.{seat_of}
@@ -14,6 +14,12 @@ use Rattle.subshare.specs.declared.OpenFault.TheVariants.{NotOpened, OutOfMemory
 -- what a receiver posted, from the posts by seats
 abbrev pub post_of : Shape → List Post → ℕ → Post
 post_of shape posts receiver = post_at posts (seat_of shape receiver)
+
+-- all values that are there lie on this polynomial of degree at most d, and they are more than d
+pub record Agree (d : ℕ) (values : List (Option Fp)) (polynomial : Polynomial) : Type 0 where
+  pub short : length polynomial.coeffs ≤ d + 1
+  pub right : wrong polynomial.coeffs 1 values ≡ []
+  pub many : d < length (present 1 values)
 
 -- no polynomial is nearest to what was posted for the place
 pub record IsUnopened (shape : Shape) (post : ℕ → Post) (lane place : ℕ) : Type 0 where

@@ -6,6 +6,7 @@ ghost use Rattle.std.specs.Prelude.{◌≡◌, ℕ, ◌+◌, ◌-◌, ◌≤◌,
 ghost use Rattle.checks61.specs.Checks.{syndrome_of, entry};
 
 mod correction;
+mod nearest;
 mod opening;
 #[cfg(test)]
 mod tests;

@@ -8,9 +8,9 @@ ghost use Rattle.periods.specs.Move.{syndrome_in, values_in, IsOpened};
 ghost use Rattle.subshare.specs.Opening.{post_of, IsUnopened, Opens};
 
 use crate::OpenFault;
+use crate::nearest::nearest_to;
 use field61::{Fe, FeList};
 use lists::OutOfMemory;
-use rs61::{DecodeFault, decode};
 use std::alloc::Global;
 use talk::{Post, PostList, Setting};
 
@@ -80,11 +80,11 @@ fn open_value(
     let values = values_at(alloc, posts, setting, k)?;
     let receivers = setting.receivers();
     prove!(receivers <= 15);
-    match decode(alloc, values.as_slice(), setting.degree()) {
-        Ok(found) => Ok(Some(found.poly.eval(Fe::ZERO))),
-        Err(DecodeFault::NoPolynomial) => Ok(None),
-        Err(DecodeFault::OutOfMemory) => Err(OutOfMemory),
-    }
+    let nearest = nearest_to(alloc, values.as_slice(), setting.degree())?;
+    let Some(poly) = nearest else {
+        return Ok(None);
+    };
+    Ok(Some(poly.eval(Fe::ZERO)))
 }
 
 /// The opened syndrome of a lane (0 to 4), from the posts of the sixth round, one for each seat: place by place the value

@@ -1,0 +1,10 @@
+pub mod Seat
+pub mod Turns
+pub mod SeatView
+pub mod OldView
+pub mod NewView
+pub mod Minds
+pub mod MindTurns
+pub mod Result
+pub mod Lanes
+pub mod Laws
