@@ -1,0 +1,9 @@
+pub mod Lists
+pub mod Fits
+pub mod Moving
+pub mod Polynomials
+pub mod Errors
+pub mod Making
+pub mod Playing
+pub mod Same
+pub mod Witness
