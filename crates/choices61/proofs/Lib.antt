@@ -1,0 +1,10 @@
+pub mod Degrees
+pub mod Products
+pub mod Sets
+pub mod Sums
+pub mod Phases
+pub mod Move
+pub mod Squares
+pub mod Fits
+pub mod Other
+pub mod Again
