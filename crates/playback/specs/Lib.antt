@@ -1,0 +1,4 @@
+pub mod Recorded
+pub mod Kept
+pub mod Playing
+pub mod Shares
