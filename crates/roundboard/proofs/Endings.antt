@@ -1,27 +1,35 @@
 -- What the words say of the pens at the end.
-use Rattle.std.proofs.Common.{◌≡◌, ℕ, ◌+◌, ◌*◌, ◌%◌, ◌^◌, ◌<◌, ◌≤◌, List, length, get_or, slice_get, Option, Some, None, sym, refl, ap, ◌∙◌, subst, inl, inr, ⊎_elim, arith}
+use Rattle.std.proofs.Common.{◌≡◌, ℕ, ◌+◌, ◌*◌, ◌%◌, ◌^◌, ◌<◌, ◌≤◌, ◌⊎◌, List, length, get_or, slice_get, Option, Some, None, sym, refl, ap, ◌∙◌, subst, inl, inr, ⊎_elim, arith}
 use Rattle.std.specs.Int.{bit_at}
 use Rattle.std.proofs.lemmas.Nat.Bits.{bit_at-lt, bit_at_above}
 use Rattle.std.proofs.lemmas.Option.{get_or_from_slice_get}
 use mathlib.Core.Logic.{dite}
 use mathlib.Core.Option.{some-injective}
 use native.Mathlib.Decide.{dec_lt}
-use Rattle.std.proofs.Common.{zero, suc, [], ◌∷◌}
+use Rattle.std.proofs.Common.{zero, suc, [], ◌∷◌, ◌++◌}
 use lib.ListN.{get_elem?}
 use Rattle.roundboard.specs.declared.view.View.{View}
 use Rattle.roundboard.specs.declared.view.Deed.{Deed}
-use Rattle.roundboard.specs.declared.view.Deed.TheVariants.{Posted, Passed, Closed, Lost, Published, Looked, Aborted, SawControl}
+use Rattle.roundboard.specs.declared.view.Deed.TheVariants.{Posted, Passed, Closed, Lost, Published, Looked, Aborted, SawControl, Cut}
+use Rattle.roundboard.specs.declared.view.Event.{Event}
+use Rattle.roundboard.specs.Logs.{OwnPosts, OwnPasses}
+use Rattle.roundboard.specs.Sheets.{sheet_of}
+use Rattle.roundboard.proofs.Sheeting.{on_sheet}
 use Rattle.roundboard.specs.declared.board.Pen.{Pen}
 use Rattle.roundboard.specs.declared.cells.Cells.{Cells}
 use Rattle.roundboard.specs.Rule.{In, event, Did, Sits, Has, Left, arrivals_of, frozen_of, RoundKept}
-use Rattle.roundboard.specs.Pages.{mask_in}
+use Rattle.roundboard.specs.Pages.{mask_in, Saw}
 use Rattle.roundboard.specs.Cells.{knows}
-use Rattle.roundboard.specs.Pens.{events, place_of, Took, CameFrom, HasNumber}
+use Rattle.roundboard.specs.Pens.{events, place_of, Took, CameFrom, CameFromBoth, HasNumber}
 use Rattle.roundboard.specs.Ends.{Ends}
 use Rattle.roundboard.specs.Closed.{AgreesAs, SettlesAs}
 use Rattle.roundboard.proofs.BitLemmas.{low_bit}
 use Rattle.roundboard.proofs.Replay.{mask_of_frozen}
 use Rattle.roundboard.proofs.Keeping.{not_none}
+use Rattle.roundboard.proofs.ListLemmas.{one_value}
+use Rattle.roundboard.proofs.Views.{In-left, In-right, In-back}
+use Rattle.roundboard.proofs.Gathers.{took_more}
+use Rattle.roundboard.proofs.Notes.{itself}
 
 inner : (a b : Option ℕ) → ◌≡◌ {A = Option (Option ℕ)} (Some a) (Some b) → a ≡ b
 inner a b e = cc
@@ -90,8 +98,14 @@ module _ {T : Type 0} {S : ℕ} (few : S ≤ 30) (rounds id : ℕ) (v : View) (m
         values = took.1;
       }
 
+  -- the masks that the warden saw
+  pub watches : (es : List Event) → ((e : Event) → In e es → In e v.events) → (r m : ℕ) → r < rounds → Saw es r m → mask r ≡ Some m
+  watches es took r m inside saw = let o = kept_round r inside in at_mask r inside ∙ ⊎_elim
+      (λ (t : (f : ℕ) × In (event r (Looked f)) es × (mask_in f ≡ Some m)). shows_look S (arrivals r) (frozen r) (Has ends.0.views r) o t.0 m (id, (v, ends.2, took (event r (Looked t.0)) t.1)) t.2)
+      (λ (t : (c : ℕ) × In (event r (Published c)) es × (c % 2 ^ 30 ≡ m)). shows S (arrivals r) (frozen r) (Has ends.0.views r) o t.0 (id, (v, ends.2, took (event r (Published t.0)) t.1)) ∙ ap (λ (x : ℕ). Some x) t.2) saw
+
   -- the deeds of all places are in the one view
-  module _ (pens : List (Pen T S)) (count : length pens ≡ S) (order : (k : ℕ) (p : Pen T S) → slice_get pens k ≡ Some p → place_of p ≡ k) (from : CameFrom v pens) (numbers : (k : ℕ) (p : Pen T S) → slice_get pens k ≡ Some p → HasNumber v p) where
+  module _ (es : List Event) (own_posts : OwnPosts S es) (own_passes : OwnPasses S es) (watch : In (S + 1) v.numbers) (pens : List (Pen T S)) (count : length pens ≡ S) (order : (k : ℕ) (p : Pen T S) → slice_get pens k ≡ Some p → place_of p ≡ k) (from : CameFromBoth v pens es) (numbers : (k : ℕ) (p : Pen T S) → slice_get pens k ≡ Some p → HasNumber v p) where
     seated : (k : ℕ) → k < S → In (k + 1) v.numbers
     seated k inside = let t = pick pens k (omega arith) in subst (λ (n : ℕ). In (n + 1) v.numbers) (order k t.0 t.1) (numbers k t.0 t.1)
 
@@ -101,7 +115,10 @@ module _ {T : Type 0} {S : ℕ} (few : S ≤ 30) (rounds id : ℕ) (v : View) (m
     in_view : (i r : ℕ) (d : Deed) → i ≡ id → Did ends.0.views i r d → In (event r d) v.events
     in_view i r d e did = subst (λ (u : View). In (event r d) u.events) (some-injective did.0 v (sym did.1 ∙ ap (λ (x : ℕ). get_elem? ends.0.views x) e ∙ ends.2)) did.2
 
-    -- a view that shows an arrival of a seat is that one
+    cutter : (i r m w : ℕ) → Did ends.0.views i r (Cut m w) → i ≡ id
+    cutter i r m w did = ends.1.single i id (S + 1) (ends.1.warden i r m w did) (v, ends.2, watch)
+
+    -- a view that shows an arrival of a seat, or a cut, is that one
     arrived : (i r : ℕ) (d : Deed) (x : ℕ) → r < rounds → Did ends.0.views i r d → Left d x → i ≡ id
     arrived i r (Posted k w) x inside did left = own_view i k ((kept_round r inside).posts k w (i, did)).0 (ends.1.own i r k w (inl did))
     arrived i r (Passed k w) x inside did left = own_view i k ((kept_round r inside).passes k w (i, did)).0 (ends.1.own i r k w (inr did))
@@ -111,15 +128,22 @@ module _ {T : Type 0} {S : ℕ} (few : S ≤ 30) (rounds id : ℕ) (v : View) (m
     arrived i r (Looked c) x inside did left = absurd left
     arrived i r Aborted x inside did left = absurd left
     arrived i r (SawControl c) x inside did left = absurd left
+    arrived i r (Cut m w) x inside did left = cutter i r m w did
 
-    published : (r m : ℕ) → r < rounds → mask r ≡ Some m → (c : ℕ) × (k : ℕ) × (p : Pen T S) × (slice_get pens k ≡ Some p) × In (event r (Published c)) (events p) × (c % 2 ^ 30 ≡ m)
+    published : (r m : ℕ) → r < rounds → mask r ≡ Some m → (c : ℕ) × (c % 2 ^ 30 ≡ m) × (((k : ℕ) × (p : Pen T S) × (slice_get pens k ≡ Some p) × In (event r (Published c)) (events p)) ⊎ In (event r (Published c)) es)
     published r m inside is =
         let t = by r m inside is in let c = t.0 in let i = t.1.0 in let did = t.1.1 in
         let closed = ends.1.publisher i r c did in
         let shown = ends.1.licensed i r c closed in
         let here : i ≡ id = arrived i r shown.2.0 shown.2.1 inside (shown.0, shown.1, shown.2.2) shown.2.3 in
-        let src = from (event r (Published c)) (in_view i r (Published c) here did) in
-        (c, src.0, src.1, src.2, src.3, t.2)
+        (c, t.2, from (event r (Published c)) (in_view i r (Published c) here did))
+
+    -- an event that isn't the warden's is that of the pen of its place
+    pen_of : (r k : ℕ) (d : Deed) → ((p : Pen T S) → In (event r d) (events p) → k ≡ place_of p) → ¬ (In (event r d) es) → In (event r d) v.events → (p : Pen T S) × (slice_get pens k ≡ Some p) × In (event r d) (events p)
+    pen_of r k d own not_his h = ⊎_elim
+        (λ (src : (j : ℕ) × (p : Pen T S) × (slice_get pens j ≡ Some p) × In (event r d) (events p)).
+        let place : k ≡ src.0 = own src.1 src.3 ∙ order src.0 src.1 src.2 in (src.1, ap (λ (n : ℕ). slice_get pens n) place ∙ src.2, src.3))
+        (λ (t : In (event r d) es). absurd (not_his t)) (from (event r d) h)
 
     posted : (r k m : ℕ) → r < rounds → mask r ≡ Some m → bit_at m k ≡ 1 → (w : ℕ) × (p : Pen T S) × (slice_get pens k ≡ Some p) × In (event r (Posted k w)) (events p)
     posted r k m inside is bit =
@@ -131,12 +155,32 @@ module _ {T : Type 0} {S : ℕ} (few : S ≤ 30) (rounds id : ℕ) (v : View) (m
         let set_ : bit_at (arrivals r) k ≡ 1 = omega (arith, part, in_c, bit_at-lt (arrivals r) k) in
         let q = o.posted k low set_ in let w = q.0 in let i = q.1.0 in let did = q.1.1 in
         let here : i ≡ id = own_view i k (o.posts k w q.1).0 (ends.1.own i r k w (inl did)) in
-        let src = from (event r (Posted k w)) (in_view i r (Posted k w) here did) in
-        let place : k ≡ src.0 = src.1.log.posts r k w src.3 ∙ order src.0 src.1 src.2 in
-        (w, src.1, ap (λ (n : ℕ). slice_get pens n) place ∙ src.2, src.3)
+        let inside_k : k < S = (o.posts k w q.1).0 in
+        let src = pen_of r k (Posted k w) (λ p h. p.log.posts r k w h) (λ h. let e : k ≡ S = own_posts r k w h in omega arith) (in_view i r (Posted k w) here did) in
+        (w, src.0, src.1, src.2)
 
-    pub settles : SettlesAs rounds mask pens
-    settles = record { posted = posted; published = published }
+    -- a late post
+    late : (r k w : ℕ) (p : Pen T S) → Took v known p → r < rounds → slice_get pens k ≡ Some p → In (event r (Posted k w)) (events p) → bit_at w 63 ≡ 1 → ((x : ℕ) × In (event r (Passed k x)) (events p)) ⊎ (bit_at (sheet_of es r).cut k ≡ 1)
+    late r k w p took inside at h is =
+        let o = kept_round r inside in let a = arrivals r in
+        let has : Has ends.0.views r (Posted k w) = (id, (v, ends.2, took.0 (event r (Posted k w)) h)) in
+        let post = o.posts k w has in let inside_k : k < S = post.0 in
+        let shut : bit_at a 63 ≡ 1 = let t = post.2 63 in let z = bit_at-lt a 63 in omega arith in
+        let c = o.closed shut in let close = o.closes c.0 c.1 in
+        let lacks : bit_at c.0 k ≡ 0 = let t = o.timely c.0 k w c.1 has in omega arith in
+        let set_ : bit_at a (30 + k) ≡ 1 = let f = close.2 k inside_k in let t = close.3 (30 + k) in let z = bit_at-lt a (30 + k) in omega arith in
+        ⊎_elim
+        (λ (q : (x : ℕ) × Has ends.0.views r (Passed k x)). let x = q.0 in let i = q.1.0 in let did = q.1.1 in
+        let here : i ≡ id = own_view i k inside_k (ends.1.own i r k x (inr did)) in
+        let src = pen_of r k (Passed k x) (λ u t. u.log.passes r k x t) (λ t. let e : k ≡ S = own_passes r k x t in omega arith) (in_view i r (Passed k x) here did) in
+        inl (x, subst (λ (u : Pen T S). In (event r (Passed k x)) (events u)) (one_value (slice_get pens k) src.0 p src.1 at) src.2))
+        (λ (q : (m : ℕ) × (x : ℕ) × Has ends.0.views r (Cut m x) × (bit_at m k ≡ 1)). let m = q.0 in let x = q.1 in let i = q.2.0 in let did = q.2.1 in
+        inr (⊎_elim (λ (src : (j : ℕ) × (u : Pen T S) × (slice_get pens j ≡ Some u) × In (event r (Cut m x)) (events u)). absurd (src.1.uncut r m x src.3))
+        (λ (t : In (event r (Cut m x)) es). on_sheet es r m x k t q.3) (from (event r (Cut m x)) (in_view i r (Cut m x) (cutter i r m x did) did))))
+        (o.passed k (omega arith) set_)
+
+    pub settles : ((k : ℕ) (p : Pen T S) → slice_get pens k ≡ Some p → Took v known p) → SettlesAs rounds mask pens es
+    settles took = record { posted = posted; published = published; late = λ r k w p inside at h is. late r k w p (took k p at) inside at h is }
 
     -- the value of who is in a mask is there
     pub held : ((k : ℕ) (p : Pen T S) → slice_get pens k ≡ Some p → Took v known p) → (r k m : ℕ) → r < rounds → mask r ≡ Some m → bit_at m k ≡ 1 → ¬ (knows known (r * S + k) ≡ None)
@@ -144,3 +188,20 @@ module _ {T : Type 0} {S : ℕ} (few : S ≤ 30) (rounds id : ℕ) (v : View) (m
         let t = posted r k m inside is bit in let p = t.1 in
         let own : ¬ (knows p.cells (r * S + k) ≡ None) = subst (λ (n : ℕ). ¬ (knows p.cells (r * S + n) ≡ None)) (order k p t.2) (p.kept r k t.0 t.3) in
         not_none S (knows p.cells (r * S + k)) (knows known (r * S + k)) ((took k p t.2).1 (r * S + k)) own
+
+-- what the last view took up from the view of all pens v and the warden's w
+module _ {T : Type 0} {S : ℕ} (v w u : View) where
+  pub all_took : (known : Cells T) (pens : List (Pen T S)) → u.events ≡ v.events ++ w.events → ((k : ℕ) (p : Pen T S) → slice_get pens k ≡ Some p → Took v known p)
+      → (k : ℕ) (p : Pen T S) → slice_get pens k ≡ Some p → Took u known p
+  all_took known pens deeds took k p at = took_more v u known known p (took k p at) (λ x h. subst (λ (l : List Event). In x l) (sym deeds) (In-left x v.events w.events h)) (λ i. itself (knows known i))
+
+  pub all_numbers : (pens : List (Pen T S)) → u.numbers ≡ v.numbers ++ w.numbers → ((k : ℕ) (p : Pen T S) → slice_get pens k ≡ Some p → HasNumber v p)
+      → (k : ℕ) (p : Pen T S) → slice_get pens k ≡ Some p → HasNumber u p
+  all_numbers pens numbers sits k p at = subst (λ (l : List ℕ). In (place_of p + 1) l) (sym numbers) (In-left (place_of p + 1) v.numbers w.numbers (sits k p at))
+
+  pub came_from : (pens : List (Pen T S)) (es : List Event) → u.events ≡ v.events ++ w.events → w.events ≡ es → CameFrom v pens → CameFromBoth u pens es
+  came_from pens es deeds his from e h = ⊎_elim (λ (t : In e v.events). inl (from e t)) (λ (t : In e w.events). inr (subst (λ (l : List Event). In e l) his t))
+      (In-back e v.events w.events (subst (λ (l : List Event). In e l) deeds h))
+
+pub his_number : (v w u : View) (n : ℕ) → u.numbers ≡ v.numbers ++ w.numbers → w.numbers ≡ (n + 1) ∷ [] → In (n + 1) u.numbers
+his_number v w u n numbers his = subst (λ (l : List ℕ). In (n + 1) l) (sym numbers) (In-right (n + 1) v.numbers w.numbers (subst (λ (l : List ℕ). In (n + 1) l) (sym his) (inl refl)))

@@ -13,12 +13,12 @@ use Rattle.atomic_table.proofs.Lists.{at_set, set_else}
 use Rattle.roundboard.specs.declared.view.View.{View}
 use Rattle.roundboard.specs.declared.view.Event.{Event}
 use Rattle.roundboard.specs.declared.view.Deed.{Deed}
-use Rattle.roundboard.specs.declared.view.Deed.TheVariants.{Posted, Passed, Closed, Lost, Published, Looked, Aborted, SawControl}
+use Rattle.roundboard.specs.declared.view.Deed.TheVariants.{Posted, Passed, Closed, Lost, Published, Looked, Aborted, SawControl, Cut}
 use Rattle.roundboard.specs.Rule.{In, arrivals_of, frozen_of, frozen_word, event, with_event, Did, Sits, Has, IsFull, RoundKept, ControlKept, Left, Showed, HasShown, Licence, IsInOrder, opened, given_out, entered, both_of, spent}
-use Rattle.roundboard.specs.Plays.{Sat, posted, passed, closed, published, looked, aborted, controlled}
+use Rattle.roundboard.specs.Plays.{Sat, posted, passed, cut, closed, published, looked, aborted, controlled}
 use Rattle.roundboard.proofs.Views.{at_keep, at_new, did_keep, In-left, In-right, In-back, did_back, has_keep, has_new, has_back, sits_keep, sits_back, at_snoc_place, split_keep, split_back, join_from, join_to, join_over}
 use Rattle.roundboard.proofs.BitLemmas.{one_place, set_again, IsFull-part}
-use Rattle.roundboard.proofs.RoundSteps.{same_round, after_post, after_pass, after_close, after_lost, after_publish, after_look, left_part, same_control, after_abort, after_control}
+use Rattle.roundboard.proofs.RoundSteps.{same_round, after_post, after_pass, after_cut, after_close, after_lost, after_publish, after_look, left_part, same_control, after_abort, after_control}
 
 abbrev St : Type 0
 St = State (Unit {0}) View
@@ -37,8 +37,8 @@ showed_new : (n : ℕ) (vs : List View) (i : ℕ) (v : View) → get_elem? vs i 
 showed_new n vs i v here r d t = at_new vs i v (with_event r d v) here (Showed n (event r)) (t.0, t.1, inr t.2, t.3, t.4)
 
 -- the licence of a deed by which nobody arrives, closes or publishes
-never_closes : (n r : ℕ) (v : View) (d : Deed) → ((k w : ℕ) → (d ≡ Posted k w) ⊎ (d ≡ Passed k w) → ⊥) → ((c : ℕ) → ¬ (d ≡ Closed c)) → ((c : ℕ) → ¬ (d ≡ Published c)) → Licence n r v d
-never_closes n r v d quiet open_ unpublished = record { sits = λ k w e. absurd (quiet k w e); arrived = λ c e. absurd (open_ c e); closed = λ c e. absurd (unpublished c e) }
+never_closes : (n r : ℕ) (v : View) (d : Deed) → ((k w : ℕ) → (d ≡ Posted k w) ⊎ (d ≡ Passed k w) → ⊥) → ((m w : ℕ) → ¬ (d ≡ Cut m w)) → ((c : ℕ) → ¬ (d ≡ Closed c)) → ((c : ℕ) → ¬ (d ≡ Published c)) → Licence n r v d
+never_closes n r v d quiet uncut open_ unpublished = record { sits = λ k w e. absurd (quiet k w e); cuts = λ m w e. absurd (uncut m w e); arrived = λ c e. absurd (open_ c e); closed = λ c e. absurd (unpublished c e) }
 
 -- a deed in the round r, which changes one of its words, at a view that may do the deed
 deed : (n rounds : ℕ) (s : St) (o : IsInOrder n rounds s) (i : ℕ) (v : View) → get_elem? s.views i ≡ some v → (r : ℕ) → r < rounds → (d : Deed) (at x : ℕ)
@@ -80,6 +80,8 @@ deed n rounds s o i v here r inside d at x apart off licence first round =
           (λ (t : (j ≡ i) × (event r d ≡ event q (Posted k w))). (v, subst (λ (z : ℕ). get_elem? vs z ≡ some v) (sym t.0) here, sits k w (inl (ap (λ (z : Event). z.deed) t.1)))) (did_back vs i v here r d j q (Posted k w) z))
           (λ (z : Did vs' j q (Passed k w)). ⊎_elim (λ (t : Did vs j q (Passed k w)). o.own j q k w (inr t))
           (λ (t : (j ≡ i) × (event r d ≡ event q (Passed k w))). (v, subst (λ (z : ℕ). get_elem? vs z ≡ some v) (sym t.0) here, sits k w (inr (ap (λ (z : Event). z.deed) t.1)))) (did_back vs i v here r d j q (Passed k w) z)) h);
+      warden = λ j q m w h. sits_keep vs i v here r d j (n + 1) (⊎_elim (λ (t : Did vs j q (Cut m w)). o.warden j q m w t)
+          (λ (t : (j ≡ i) × (event r d ≡ event q (Cut m w))). (v, subst (λ (z : ℕ). get_elem? vs z ≡ some v) (sym t.0) here, licence.cuts m w (ap (λ (z : Event). z.deed) t.1))) (did_back vs i v here r d j q (Cut m w) h));
       numbered = λ j k u is zero_ l b. ⊎_elim (λ (t : (j ≡ i) × (with_event r d v ≡ u)). subst (λ (z : View). k < z.given) t.1
           (o.numbered i k v here (subst (λ (z : View). In 0 z.numbers) (sym t.1) zero_) l (sits_back vs i v here r d l k b)))
           (λ (t : (j ≢ i) × (get_elem? vs j ≡ some u)). o.numbered j k u t.1 zero_ l (sits_back vs i v here r d l k b)) (at_set vs i j (with_event r d v) u is);
@@ -100,14 +102,6 @@ late_bit n rounds s o r k few inside place never late =
     let free : bit_at a k ≡ 0 = dite (ℕ_discrete (bit_at a k) 1) (λ e. absurd (never (round.posted k (omega arith) e).0 (round.posted k (omega arith) e).1)) (λ ne. let b = bit_at-lt a k in omega arith) in
     let b = bit_at-lt a (30 + k) in omega arith
 
--- and had passed
-late_passed : (n rounds : ℕ) (s : St) (o : IsInOrder n rounds s) (id : ℕ) (m : Sat) (r k : ℕ) → n ≤ 30 → r < rounds → k < n → In (k + 1) m.0.numbers → get_elem? s.views id ≡ some m.0
-    → bit_at (word s (arrivals_of r)) (30 + k) ≡ 1 → (w : ℕ) × In (event r (Passed k w)) m.0.events
-late_passed n rounds s o id m r k few inside place sits here set_ =
-    let p = (o.each_round r inside).passed k (omega arith) set_ in
-    let e : p.1.0 ≡ id = o.single p.1.0 id (k + 1) (o.own p.1.0 r k p.0 (inr p.1.1)) (m.0, here, sits) in
-    (p.0, subst (λ (u : View). In (event r (Passed k p.0)) u.events) (some-injective p.1.1.0 m.0 (sym p.1.1.1 ∙ (ap (λ (j : ℕ). get_elem? s.views j) e ∙ here))) p.1.1.2)
-
 pub posts : (n rounds slots id : ℕ) (m : Sat) (r k : ℕ) → n ≤ 30 → r < rounds → k < n → In (k + 1) m.0.numbers → ((w : ℕ) → ¬ (In (event r (Posted k w)) m.0.events))
     → Allows (IsInOrder n rounds) slots id m (arrivals_of r) (λ a. bit_or a (2 ^ k)) (posted (step slots (arrivals_of r) (2 ^ k) 0 none) m)
 posts n rounds slots id m r k few inside place sits none_yet s o wide here _ =
@@ -120,6 +114,7 @@ posts n rounds slots id m r k few inside place sits none_yet s o wide here _ =
       deed n rounds s o id m.0 here r inside (Posted k a) (arrivals_of r) (bit_or a (2 ^ k)) (λ q ne. ((λ e. ne (omega arith)), (λ e. omega arith))) (λ e. omega arith)
           record {
             sits = λ j w e. ⊎_elim (λ (y : Posted k a ≡ Posted j w). let t : k ≡ j = cc in subst (λ (z : ℕ). In (z + 1) m.0.numbers) t sits) (λ (y : Posted k a ≡ Passed j w). absurd cc) e;
+            cuts = λ x w e. absurd cc;
             arrived = λ c e. absurd cc;
             closed = λ c e. absurd cc;
           }
@@ -129,7 +124,6 @@ posts n rounds slots id m r k few inside place sits none_yet s o wide here _ =
           (after_post n a (word s (frozen_of r)) (Has s.views r) (Has (set s.views id (with_event r (Posted k a) m.0)) r) (o.each_round r inside) keep k place few never back (has_new s.views id m.0 here r (Posted k a)))),
       λ q j e p. let x : r ≡ q = omega arith in let y : k ≡ j = one_place k j p in (
         (λ z. (with_event (x z) (Posted (y z) a) m.0, m.1)),
-        (λ late. subst (λ (z : ℕ × ℕ). (w : ℕ) × In (event z.0 (Passed z.1 w)) m.0.events) (λ z. (x z, y z)) (late_passed n rounds s o id m r k few inside place sits here (late_bit n rounds s o r k few inside place never late))),
         (λ late. subst (λ (z : ℕ). bit_at a (30 + z) ≡ 1) y (late_bit n rounds s o r k few inside place never late)),
       ),
     )
@@ -144,6 +138,7 @@ passes n rounds slots id m r k few inside place sits s o wide here _ =
       deed n rounds s o id m.0 here r inside (Passed k a) (arrivals_of r) x (λ q ne. ((λ e. ne (omega arith)), (λ e. omega arith))) (λ e. omega arith)
           record {
             sits = λ j w e. ⊎_elim (λ (y : Passed k a ≡ Posted j w). absurd cc) (λ (y : Passed k a ≡ Passed j w). let t : k ≡ j = cc in subst (λ (z : ℕ). In (z + 1) m.0.numbers) t sits) e;
+            cuts = λ x w e. absurd cc;
             arrived = λ c e. absurd cc;
             closed = λ c e. absurd cc;
           }
@@ -152,6 +147,27 @@ passes n rounds slots id m r k few inside place sits s o wide here _ =
           (λ z. (sym (get_or-set_same s.words (arrivals_of r) x 0 (omega arith)) z, sym (get_or-set_other s.words (arrivals_of r) (frozen_of r) x 0 (λ e. omega arith)) z))
           (after_pass n a (word s (frozen_of r)) (Has s.views r) (Has (set s.views id (with_event r (Passed k a) m.0)) r) (o.each_round r inside) keep k place few back (has_new s.views id m.0 here r (Passed k a)))),
       λ q j e p. let t : r ≡ q = omega arith in let u : 30 + k ≡ 30 + j = one_place (30 + k) (30 + j) p in let y : k ≡ j = omega arith in λ z. (with_event (t z) (Passed (y z) a) m.0, m.1),
+    )
+
+pub cuts : (n rounds slots id : ℕ) (m : Sat) (r seats : ℕ) → n ≤ 30 → r < rounds → seats < 2 ^ n → seats < 2 ^ 30 → In (n + 1) m.0.numbers
+    → Allows (IsInOrder n rounds) slots id m (arrivals_of r) (λ a. bit_or a (seats * 2 ^ 30)) (cut (step slots (arrivals_of r) (seats * 2 ^ 30) 0 none) m)
+cuts n rounds slots id m r seats few inside of_seats low sits s o wide here _ =
+    let a : ℕ = word s (arrivals_of r) in let long = o.long in let x : ℕ = bit_or a (seats * 2 ^ 30) in (
+      with_event r (Cut seats a) m.0,
+      keeps,
+      tt,
+      deed n rounds s o id m.0 here r inside (Cut seats a) (arrivals_of r) x (λ q ne. ((λ e. ne (omega arith)), (λ e. omega arith))) (λ e. omega arith)
+          record {
+            sits = λ j w e. ⊎_elim (λ (y : Cut seats a ≡ Posted j w). absurd cc) (λ (y : Cut seats a ≡ Passed j w). absurd cc) e;
+            cuts = λ j w e. sits;
+            arrived = λ c e. absurd cc;
+            closed = λ c e. absurd cc;
+          }
+          (λ c e is h. absurd cc)
+          (λ keep back. subst (λ (z : ℕ × ℕ). RoundKept n z.0 z.1 (Has (set s.views id (with_event r (Cut seats a) m.0)) r))
+          (λ z. (sym (get_or-set_same s.words (arrivals_of r) x 0 (omega arith)) z, sym (get_or-set_other s.words (arrivals_of r) (frozen_of r) x 0 (λ e. omega arith)) z))
+          (after_cut n a (word s (frozen_of r)) (Has s.views r) (Has (set s.views id (with_event r (Cut seats a) m.0)) r) (o.each_round r inside) keep seats of_seats low few back (has_new s.views id m.0 here r (Cut seats a)))),
+      λ q j e p. let t : r ≡ q = omega arith in let y : seats ≡ j = omega arith in λ z. (with_event (t z) (Cut (y z) a) m.0, m.1),
     )
 
 -- what the round of a view's own deed says
@@ -169,7 +185,7 @@ closes n rounds slots id m r d left few inside mine is_left full s o wide here _
       keeps,
       tt,
       deed n rounds s o id m.0 here r inside (Closed a) (arrivals_of r) (bit_or a (2 ^ 63)) (λ q ne. ((λ e. ne (omega arith)), (λ e. omega arith))) (λ e. omega arith)
-          record { sits = λ j x e. ⊎_elim (λ y. absurd cc) (λ y. absurd cc) e; arrived = λ c e. (d, left, mine, is_left, full); closed = λ c e. absurd cc }
+          record { sits = λ j x e. ⊎_elim (λ y. absurd cc) (λ y. absurd cc) e; cuts = λ x w e. absurd cc; arrived = λ c e. (d, left, mine, is_left, full); closed = λ c e. absurd cc }
           (λ c e is h. let t = round.closes e h in let z = t.0 in omega arith)
           (λ keep back. subst (λ (z : ℕ × ℕ). RoundKept n z.0 z.1 (Has (set s.views id (with_event r (Closed a) m.0)) r))
           (λ z. (sym (get_or-set_same s.words (arrivals_of r) (bit_or a (2 ^ 63)) 0 (omega arith)) z, sym (get_or-set_other s.words (arrivals_of r) (frozen_of r) (bit_or a (2 ^ 63)) 0 (λ e. omega arith)) z))
@@ -181,7 +197,7 @@ closes n rounds slots id m r d left few inside mine is_left full s o wide here _
       keeps,
       tt,
       deed n rounds s o id m.0 here r inside (Lost a) (arrivals_of r) (bit_or a (2 ^ 63)) (λ q ne. ((λ e. ne (omega arith)), (λ e. omega arith))) (λ e. omega arith)
-          (never_closes n r m.0 (Lost a) (λ k w e. ⊎_elim (λ y. absurd cc) (λ y. absurd cc) e) (λ c e. absurd cc) (λ c e. absurd cc))
+          (never_closes n r m.0 (Lost a) (λ k w e. ⊎_elim (λ y. absurd cc) (λ y. absurd cc) e) (λ x w e. absurd cc) (λ c e. absurd cc) (λ c e. absurd cc))
           (λ c e is h. absurd cc)
           (λ keep back. subst (λ (z : ℕ × ℕ). RoundKept n z.0 z.1 (Has (set s.views id (with_event r (Lost a) m.0)) r))
           (λ z. ((sym (set_again a 63 is) ∙ sym (get_or-set_same s.words (arrivals_of r) (bit_or a (2 ^ 63)) 0 (omega arith))) z, sym (get_or-set_other s.words (arrivals_of r) (frozen_of r) (bit_or a (2 ^ 63)) 0 (λ e. omega arith)) z))
@@ -197,7 +213,7 @@ publishes n rounds slots id m r c x inside mine is s o wide here _ =
       keeps,
       tt,
       deed n rounds s o id m.0 here r inside (Published c) (frozen_of r) (bit_or f x) (λ q ne. ((λ e. omega arith), (λ e. ne (omega arith)))) (λ e. omega arith)
-          record { sits = λ j y e. ⊎_elim (λ z. absurd cc) (λ z. absurd cc) e; arrived = λ d e. absurd cc; closed = λ d e. let t : c ≡ d = cc in subst (λ (y : ℕ). In (event r (Closed y)) m.0.events) t mine }
+          record { sits = λ j y e. ⊎_elim (λ z. absurd cc) (λ z. absurd cc) e; cuts = λ x w e. absurd cc; arrived = λ d e. absurd cc; closed = λ d e. let t : c ≡ d = cc in subst (λ (y : ℕ). In (event r (Closed y)) m.0.events) t mine }
           (λ d e is h. absurd cc)
           (λ keep back. subst (λ (z : ℕ × ℕ). RoundKept n z.0 z.1 (Has (set s.views id (with_event r (Published c) m.0)) r))
           (λ z. (sym (get_or-set_other s.words (frozen_of r) (arrivals_of r) (bit_or f x) 0 (λ e. omega arith)) z, (ap (λ (y : ℕ). bit_or f y) (sym is) ∙ sym (get_or-set_same s.words (frozen_of r) (bit_or f x) 0 (omega arith))) z))
@@ -212,7 +228,7 @@ looks n rounds slots id m r inside s o wide here _ =
       keeps,
       tt,
       deed n rounds s o id m.0 here r inside (Looked f) (frozen_of r) f (λ q ne. ((λ e. omega arith), (λ e. ne (omega arith)))) (λ e. omega arith)
-          (never_closes n r m.0 (Looked f) (λ k w e. ⊎_elim (λ y. absurd cc) (λ y. absurd cc) e) (λ c e. absurd cc) (λ c e. absurd cc))
+          (never_closes n r m.0 (Looked f) (λ k w e. ⊎_elim (λ y. absurd cc) (λ y. absurd cc) e) (λ x w e. absurd cc) (λ c e. absurd cc) (λ c e. absurd cc))
           (λ c e is h. absurd cc)
           (λ keep back. subst (λ (z : ℕ × ℕ). RoundKept n z.0 z.1 (Has (set s.views id (with_event r (Looked f) m.0)) r))
           (λ z. (sym (get_or-set_other s.words (frozen_of r) (arrivals_of r) f 0 (λ e. omega arith)) z, sym (get_or-set_same s.words (frozen_of r) f 0 (omega arith)) z))
@@ -230,6 +246,7 @@ record IsNoRounds (d : Deed) : Type 0 where
   passed : (k w : ℕ) → ¬ (d ≡ Passed k w)
   closed : (c : ℕ) → ¬ (d ≡ Closed c)
   published : (c : ℕ) → ¬ (d ≡ Published c)
+  cuts : (m w : ℕ) → ¬ (d ≡ Cut m w)
 
 -- a deed on the control word
 control_deed : (n rounds : ℕ) (s : St) (o : IsInOrder n rounds s) (i : ℕ) (v : View) → get_elem? s.views i ≡ some v → (d : Deed) (x : ℕ) → IsNoRounds d
@@ -253,6 +270,7 @@ control_deed n rounds s o i v here d x quiet control =
       publisher = λ j q c h. did_keep vs i v here r d j q (Closed c) (o.publisher j q c (old j q (Published c) (quiet.published c) h));
       alone = λ j l q c e a b. o.alone j l q c e (old j q (Closed c) (quiet.closed c) a) (old l q (Closed e) (quiet.closed e) b);
       own = λ j q k w h. sits_keep vs i v here r d j (k + 1) (o.own j q k w (⊎_elim (λ (t : Did vs' j q (Posted k w)). inl (old j q (Posted k w) (quiet.posted k w) t)) (λ (t : Did vs' j q (Passed k w)). inr (old j q (Passed k w) (quiet.passed k w) t)) h));
+      warden = λ j q m w h. sits_keep vs i v here r d j (n + 1) (o.warden j q m w (old j q (Cut m w) (quiet.cuts m w) h));
       numbered = λ j k u is zero_ l b. ⊎_elim (λ (t : (j ≡ i) × (with_event r d v ≡ u)). subst (λ (z : View). k < z.given) t.1
           (o.numbered i k v here (subst (λ (z : View). In 0 z.numbers) (sym t.1) zero_) l (sits_back vs i v here r d l k b)))
           (λ (t : (j ≢ i) × (get_elem? vs j ≡ some u)). o.numbered j k u t.1 zero_ l (sits_back vs i v here r d l k b)) (at_set vs i j (with_event r d v) u is);
@@ -263,7 +281,7 @@ aborts n rounds slots id m s o wide here _ = (
   with_event 8 Aborted m.0,
   keeps,
   tt,
-  control_deed n rounds s o id m.0 here Aborted (bit_or (word s 0) (2 ^ 0)) record { posted = λ k w e. absurd cc; passed = λ k w e. absurd cc; closed = λ c e. absurd cc; published = λ c e. absurd cc }
+  control_deed n rounds s o id m.0 here Aborted (bit_or (word s 0) (2 ^ 0)) record { posted = λ k w e. absurd cc; passed = λ k w e. absurd cc; closed = λ c e. absurd cc; published = λ c e. absurd cc; cuts = λ x w e. absurd cc }
       (λ keep back. after_abort (word s 0) (Has s.views 8) (Has (set s.views id (with_event 8 Aborted m.0)) 8) o.control keep back (has_new s.views id m.0 here 8 Aborted)),
   refl,
 )
@@ -273,7 +291,7 @@ controls n rounds slots id m s o wide here _ = (
   with_event 8 (SawControl (word s 0)) m.0,
   keeps,
   tt,
-  control_deed n rounds s o id m.0 here (SawControl (word s 0)) (word s 0) record { posted = λ k w e. absurd cc; passed = λ k w e. absurd cc; closed = λ c e. absurd cc; published = λ c e. absurd cc }
+  control_deed n rounds s o id m.0 here (SawControl (word s 0)) (word s 0) record { posted = λ k w e. absurd cc; passed = λ k w e. absurd cc; closed = λ c e. absurd cc; published = λ c e. absurd cc; cuts = λ x w e. absurd cc }
       (λ keep back. after_control (word s 0) (Has s.views 8) (Has (set s.views id (with_event 8 (SawControl (word s 0)) m.0)) 8) o.control keep back),
   (refl, (λ h. o.control.aborts (has_own s id m.0 8 Aborted here h)), (λ before h. o.control.sees before (has_own s id m.0 8 (SawControl before) here h))),
 )
@@ -296,6 +314,7 @@ empty_round n H never = record {
   posts = λ k w h. absurd (never (Posted k w) h);
   posted = λ k small is. absurd (let z = bit_at-zero k in omega arith);
   passes = λ k w h. absurd (never (Passed k w) h);
+  cuts = λ m w h. absurd (never (Cut m w) h);
   passed = λ k small is. absurd (let z = bit_at-zero (30 + k) in omega arith);
   spare = λ k low high. bit_at-zero k;
   closes = λ c h. absurd (never (Closed c) h);
@@ -318,6 +337,7 @@ opens n rounds ws hs few long zeros = record {
   publisher = λ i r c h. absurd (no_deed i r (Published c) h);
   alone = λ i j r c d h g. absurd (no_deed i r (Closed c) h);
   own = λ i r k w h. absurd (⊎_elim (λ (t : Did (opened ∷ []) i r (Posted k w)). no_deed i r (Posted k w) t) (λ (t : Did (opened ∷ []) i r (Passed k w)). no_deed i r (Passed k w) t) h);
+  warden = λ i r m w h. absurd (no_deed i r (Cut m w) h);
   numbered = λ i k v is zero_ j b. subst (λ (u : View). k < u.given) (sym (one_view i v is)) (let e = (one_sits j k b).1 in omega arith);
 }
 
@@ -342,6 +362,7 @@ enters n rounds id v hub s o here =
       publisher = λ j q c h. did_to j q (Closed c) (o.publisher j q c (did_from j q (Published c) h));
       alone = λ j l q c d a b. o.alone j l q c d (did_from j q (Closed c) a) (did_from l q (Closed d) b);
       own = λ j q k y h. sits_to j (k + 1) (o.own j q k y (⊎_elim (λ (t : Did vs' j q (Posted k y)). inl (did_from j q (Posted k y) t)) (λ (t : Did vs' j q (Passed k y)). inr (did_from j q (Passed k y) t)) h));
+      warden = λ j q m y h. sits_to j (n + 1) (o.warden j q m y (did_from j q (Cut m y) h));
       numbered = λ i k u is zero_ l b.
           let below : k < v.given + 1 = ⊎_elim (λ (t : Sits vs l k). let z = known l k t in omega arith) (λ (t : (l ≡ length (set vs id w)) × (k ≡ v.given)). let z = t.1 in omega arith) (sits_from l k b) in
           ⊎_elim
@@ -386,6 +407,8 @@ gathers n rounds id v other w s o here apart there =
           (λ (z : Did vs' j q (Posted k y)). ⊎_elim (λ (t : (j ≢ other) × Did vs j q (Posted k y)). inl (t.0, o.own j q k y (inl t.1))) (λ (t : (j ≡ id) × Did vs other q (Posted k y)). inr (t.0, o.own other q k y (inl t.1))) (did_from j q (Posted k y) z))
           (λ (z : Did vs' j q (Passed k y)). ⊎_elim (λ (t : (j ≢ other) × Did vs j q (Passed k y)). inl (t.0, o.own j q k y (inr t.1))) (λ (t : (j ≡ id) × Did vs other q (Passed k y)). inr (t.0, o.own other q k y (inr t.1))) (did_from j q (Passed k y) z)) h in
           ⊎_elim (λ (t : (j ≢ other) × Sits vs j (k + 1)). sits_to j (k + 1) t.0 t.1) (λ (t : (j ≡ id) × Sits vs other (k + 1)). subst (λ (z : ℕ). Sits vs' z (k + 1)) (sym t.0) (sits_over (k + 1) t.1)) from;
+      warden = λ j q m y h. ⊎_elim (λ (t : (j ≢ other) × Did vs j q (Cut m y)). sits_to j (n + 1) t.0 (o.warden j q m y t.1))
+          (λ (t : (j ≡ id) × Did vs other q (Cut m y)). subst (λ (z : ℕ). Sits vs' z (n + 1)) (sym t.0) (sits_over (n + 1) (o.warden other q m y t.1))) (did_from j q (Cut m y) h);
       numbered = λ i k u is zero_ l b. let somewhere = some_sits l k b in ⊎_elim
           (λ (t : (i ≡ other) × (spent ≡ u)). absurd (subst (λ (z : View). In 0 z.numbers) (sym t.1) zero_))
           (λ (t : (i ≢ other) × (get_elem? (set vs id both) i ≡ some u)). ⊎_elim

@@ -1,20 +1,23 @@
 -- How a log grows.
-use Rattle.std.proofs.Common.{◌≡◌, ℕ, ◌+◌, ◌%◌, ◌^◌, ◌<◌, ◌⊎◌, List, [], ◌∷◌, sym, refl, ap, subst, inl, inr, ⊎_elim}
+use Rattle.std.proofs.Common.{◌≡◌, ℕ, ◌+◌, ◌%◌, ◌^◌, ◌<◌, ◌≤◌, ◌⊎◌, List, [], ◌∷◌, sym, refl, ap, ◌∙◌, subst, inl, inr, ⊎_elim, arith}
 use Rattle.std.specs.Int.{bit_at}
 use Rattle.roundboard.specs.declared.view.Event.{Event}
 use Rattle.roundboard.specs.declared.view.Deed.{Deed}
-use Rattle.roundboard.specs.declared.view.Deed.TheVariants.{Posted, Passed, Closed, Lost, Published, Looked, SawControl}
-use Rattle.std.proofs.Common.{length, set, Option, Some, Bool}
+use Rattle.roundboard.specs.declared.view.Deed.TheVariants.{Posted, Passed, Closed, Lost, Published, Looked, SawControl, Cut}
+use Rattle.std.proofs.Common.{length, set, Option, Some, None, Bool}
 use Rattle.atomic_table.specs.Table.{Me}
 use Rattle.roundboard.specs.declared.view.View.{View}
 use Rattle.roundboard.specs.declared.page.Page.{Page}
 use Rattle.roundboard.specs.Rule.{In, event, with_event, IsFull, control_round}
 use Rattle.roundboard.specs.Pages.{Paged, page_of, turned, Saw, newer}
-use Rattle.roundboard.specs.Answers.{LookTells, LooksUnset}
+use Rattle.std.specs.Prelude.{IfSome}
+use Rattle.roundboard.specs.Answers.{LookTells, LooksUnset, last_look}
+use Rattle.roundboard.specs.declared.board.Waited.{Waited}
+use Rattle.roundboard.specs.declared.board.Waited.TheVariants.{Frozen as WaitedFrozen, Aborted as WaitedAborted}
 use Rattle.roundboard.specs.declared.board.Look.{Look}
 use Rattle.roundboard.specs.declared.board.Look.TheVariants.{Frozen, NotYet, Aborted as LookAborted}
 use Rattle.roundboard.proofs.Replay.{keeps_page, turns_page, replay}
-use Rattle.roundboard.specs.Logs.{ClosesOrLoses, Arrival, OwnPosts, OwnPasses, Grew, NoPosts, OnlyLooks, IsLoad}
+use Rattle.roundboard.specs.Logs.{ClosesOrLoses, Arrival, OwnPosts, OwnPasses, Grew, NoArrivals, OnlyLooks, IsLoad, frozen_loads, control_loads}
 
 -- one more event, of which it is known whose post or pass it would be
 pub own_posts_more : (place : ℕ) (es : List Event) (r : ℕ) (d : Deed) → OwnPosts place es → ((k w : ℕ) → d ≡ Posted k w → k ≡ place) → OwnPosts place (event r d ∷ es)
@@ -63,6 +66,9 @@ no_posts_more es r d none q k w h = ⊎_elim (λ (t : event r d ≡ event q (Pos
 no_passes_more : (es : List Event) (r : ℕ) (d : Deed) → ((k w : ℕ) → ¬ (d ≡ Passed k w)) → (q k w : ℕ) → In (event q (Passed k w)) (event r d ∷ es) → In (event q (Passed k w)) es
 no_passes_more es r d none q k w h = ⊎_elim (λ (t : event r d ≡ event q (Passed k w)). absurd (none k w (ap (λ (z : Event). z.deed) t))) (λ (t : In (event q (Passed k w)) es). t) h
 
+pub no_cuts_more : (es : List Event) (r : ℕ) (d : Deed) → ((m w : ℕ) → ¬ (d ≡ Cut m w)) → (q m w : ℕ) → In (event q (Cut m w)) (event r d ∷ es) → In (event q (Cut m w)) es
+no_cuts_more es r d none q m w h = ⊎_elim (λ (t : event r d ≡ event q (Cut m w)). absurd (none m w (ap (λ (z : Event). z.deed) t))) (λ (t : In (event q (Cut m w)) es). t) h
+
 -- a closing step adds no post and no pass
 pub closing_posts : (r : ℕ) (old new : List Event) → ClosesOrLoses r old new → (q k w : ℕ) → In (event q (Posted k w)) new → In (event q (Posted k w)) old
 closing_posts r old new (c, how) q k w h = ⊎_elim
@@ -75,6 +81,12 @@ closing_passes r old new (c, how) q k w h = ⊎_elim
     (λ (t : (bit_at c 63 ≡ 0) × (new ≡ event r (Published c) ∷ (event r (Closed c) ∷ old))). no_passes_more old r (Closed c) (λ j x e. absurd cc) q k w
     (no_passes_more (event r (Closed c) ∷ old) r (Published c) (λ j x e. absurd cc) q k w (subst (λ (l : List Event). In (event q (Passed k w)) l) t.1 h)))
     (λ (t : (bit_at c 63 ≡ 1) × (new ≡ event r (Lost c) ∷ old)). no_passes_more old r (Lost c) (λ j x e. absurd cc) q k w (subst (λ (l : List Event). In (event q (Passed k w)) l) t.1 h)) how
+
+pub closing_cuts : (r : ℕ) (old new : List Event) → ClosesOrLoses r old new → (q k w : ℕ) → In (event q (Cut k w)) new → In (event q (Cut k w)) old
+closing_cuts r old new (c, how) q k w h = ⊎_elim
+    (λ (t : (bit_at c 63 ≡ 0) × (new ≡ event r (Published c) ∷ (event r (Closed c) ∷ old))). no_cuts_more old r (Closed c) (λ j x e. absurd cc) q k w
+    (no_cuts_more (event r (Closed c) ∷ old) r (Published c) (λ j x e. absurd cc) q k w (subst (λ (l : List Event). In (event q (Cut k w)) l) t.1 h)))
+    (λ (t : (bit_at c 63 ≡ 1) × (new ≡ event r (Lost c) ∷ old)). no_cuts_more old r (Lost c) (λ j x e. absurd cc) q k w (subst (λ (l : List Event). In (event q (Cut k w)) l) t.1 h)) how
 
 closing_keeps : (r : ℕ) (old new : List Event) → ClosesOrLoses r old new → (e : Event) → In e old → In e new
 closing_keeps r old new (c, how) e h = ⊎_elim
@@ -94,6 +106,10 @@ module _ (seats r : ℕ) (d : Deed) (w all : ℕ) (old new : List Event) (how : 
   pub arrival_passes : (q k x : ℕ) → In (event q (Passed k x)) new → In (event q (Passed k x)) (event r d ∷ old)
   arrival_passes q k x h = ⊎_elim (λ (t : (bit_at w 63 ≡ 0) × IsFull seats all × ClosesOrLoses r (event r d ∷ old) new). closing_passes r (event r d ∷ old) new t.2 q k x h)
       (λ (t : ((bit_at w 63 ≡ 1) ⊎ (¬ (IsFull seats all))) × (new ≡ event r d ∷ old)). subst (λ (l : List Event). In (event q (Passed k x)) l) t.1 h) how
+
+  pub arrival_cuts : (q k x : ℕ) → In (event q (Cut k x)) new → In (event q (Cut k x)) (event r d ∷ old)
+  arrival_cuts q k x h = ⊎_elim (λ (t : (bit_at w 63 ≡ 0) × IsFull seats all × ClosesOrLoses r (event r d ∷ old) new). closing_cuts r (event r d ∷ old) new t.2 q k x h)
+      (λ (t : ((bit_at w 63 ≡ 1) ⊎ (¬ (IsFull seats all))) × (new ≡ event r d ∷ old)). subst (λ (l : List Event). In (event q (Cut k x)) l) t.1 h) how
 
   pub arrival_grew : Grew r old new
   arrival_grew = record {
@@ -131,13 +147,15 @@ arrival_closer seats r d w all old new how other c h = ⊎_elim
 
 -- ---- looks
 pub looks_none : (r : ℕ) (l : List Event) → OnlyLooks r l l
-looks_none r l = record { keep = λ e h. h; loads = λ e h. inl h }
+looks_none r l = record { keep = λ e h. h; loads = λ e h. inl h; frozen = omega arith; control = omega arith }
 
 -- one more load of a look
 look_more : (r : ℕ) (a b : List Event) (e : Event) → IsLoad r e → OnlyLooks r a b → OnlyLooks r a (e ∷ b)
 look_more r a b e is o = record {
   keep = λ x h. inr (o.keep x h);
   loads = λ x h. ⊎_elim (λ (t : e ≡ x). inr (subst (λ (y : Event). IsLoad r y) t is)) (λ (t : In x b). o.loads x t) h;
+  frozen = let t = o.frozen in omega (arith, t);
+  control = let t = o.control in omega (arith, t);
 }
 
 -- a look that found nothing, after looks
@@ -145,27 +163,24 @@ pub unset_more : (r c : ℕ) (a b new : List Event) → OnlyLooks r a b → Look
 unset_more r c a b new o (f, is, none) = subst (λ (l : List Event). OnlyLooks r a l) (sym is)
     (look_more r a (event r (Looked f) ∷ b) (event control_round (SawControl c)) (inr (c, refl)) (look_more r a b (event r (Looked f)) (inl (f, refl)) o))
 
--- a look adds no post
-pub looks_no_posts : (r : ℕ) (a b : List Event) → OnlyLooks r a b → NoPosts a b
-looks_no_posts r a b o = record {
+-- a look adds no post and no pass
+pub looks_no_arrivals : (r : ℕ) (a b : List Event) → OnlyLooks r a b → NoArrivals a b
+looks_no_arrivals r a b o = record {
   posts = λ q k w h. ⊎_elim (λ (t : In (event q (Posted k w)) a). t)
-      (λ (t : IsLoad r (event q (Posted k w))). ⊎_elim
-      (λ (u : (f : ℕ) × (event q (Posted k w) ≡ event r (Looked f))). absurd (let z : Posted k w ≡ Looked u.0 = ap (λ (x : Event). x.deed) u.1 in cc))
-      (λ (u : (c : ℕ) × (event q (Posted k w) ≡ event control_round (SawControl c))). absurd (let z : Posted k w ≡ SawControl u.0 = ap (λ (x : Event). x.deed) u.1 in cc)) t)
+      (λ (t : IsLoad r (event q (Posted k w))). absurd (⊎_elim
+      (λ (u : (f : ℕ) × (event q (Posted k w) ≡ event r (Looked f))). let z : Posted k w ≡ Looked u.0 = ap (λ (x : Event). x.deed) u.1 in cc)
+      (λ (u : (c : ℕ) × (event q (Posted k w) ≡ event control_round (SawControl c))). let z : Posted k w ≡ SawControl u.0 = ap (λ (x : Event). x.deed) u.1 in cc) t))
       (o.loads (event q (Posted k w)) h);
-}
-
--- nor a pass
-pub looks_grew : (r : ℕ) (a b : List Event) → OnlyLooks r a b → Grew r a b
-looks_grew r a b o = record {
-  keep = o.keep;
-  posts = λ q k w h. inl ((looks_no_posts r a b o).posts q k w h);
-  passes = λ q k w h. ⊎_elim (λ (t : In (event q (Passed k w)) a). inl t)
+  passes = λ q k w h. ⊎_elim (λ (t : In (event q (Passed k w)) a). t)
       (λ (t : IsLoad r (event q (Passed k w))). absurd (⊎_elim
       (λ (u : (f : ℕ) × (event q (Passed k w) ≡ event r (Looked f))). let z : Passed k w ≡ Looked u.0 = ap (λ (x : Event). x.deed) u.1 in cc)
       (λ (u : (c : ℕ) × (event q (Passed k w) ≡ event control_round (SawControl c))). let z : Passed k w ≡ SawControl u.0 = ap (λ (x : Event). x.deed) u.1 in cc) t))
       (o.loads (event q (Passed k w)) h);
 }
+
+pub looks_grew : (r : ℕ) (a b : List Event) → OnlyLooks r a b → Grew r a b
+looks_grew r a b o = let none = looks_no_arrivals r a b o in
+    record { keep = o.keep; posts = λ q k w h. inl (none.posts q k w h); passes = λ q k w h. inl (none.passes q k w h) }
 
 -- what a look adds, whatever it answers
 pub look_grew : (r : ℕ) (result : Look) (old new : List Event) → LookTells r result old new → OnlyLooks r old new
@@ -181,3 +196,19 @@ look_saw r m old new (f, is, shows) = inl (f, subst (λ (l : List Event). In (ev
 pub look_page : (r m : ℕ) (old new : List Event) → LookTells r (Frozen m) old new → (page_of new r).mask ≡ Some m
 look_page r m old new (f, is, shows) = subst (λ (l : List Event). (page_of l r).mask ≡ Some m) (sym is)
     (replay (event r (Looked f)) old r (λ p. p.mask ≡ Some m) (λ e. ap (λ (o : Option ℕ). newer o (page_of old r).mask) shows) (λ n. absurd (n refl)))
+
+-- ---- waits
+-- a pen that is answered "not yet" had seen no mask, so one that had seen a mask before its wait isn't
+pub not_seen : (first now next : Option ℕ) (result : Look) → result ≡ NotYet → IfSome now (λ m. result ≡ Frozen m) → IfSome first (λ m. now ≡ Some m) → IfSome first (λ m. next ≡ Some m)
+not_seen None now next result is again seen = tt
+not_seen (Some m) None next result is again seen = absurd (let t = seen in cc)
+not_seen (Some m) (Some n) next result is again seen = absurd (let t : NotYet ≡ Frozen n = sym is ∙ again in cc)
+
+last_frozen : (waited : Waited) (m : ℕ) → last_look waited ≡ Frozen m → waited ≡ WaitedFrozen m
+last_frozen (WaitedFrozen x) m e = let same : x ≡ m = cc in ap (λ (n : ℕ). WaitedFrozen n) same
+last_frozen WaitedAborted m e = absurd cc
+
+-- the last look of a wait answers with the mask that was seen before
+pub frozen_again : (first now : Option ℕ) (waited : Waited) → IfSome now (λ m. last_look waited ≡ Frozen m) → IfSome first (λ m. now ≡ Some m) → IfSome first (λ m. waited ≡ WaitedFrozen m)
+frozen_again None now waited again seen = tt
+frozen_again (Some m) now waited again seen = last_frozen waited m (subst (λ (o : Option ℕ). IfSome o (λ n. last_look waited ≡ Frozen n)) seen again)

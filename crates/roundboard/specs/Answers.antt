@@ -1,6 +1,6 @@
 -- What each answer of a call says. Rounds and places count from 0.
 use Rattle.std.specs.Int.{bit_at}
-use Rattle.std.specs.Prelude.{◌≡◌, ℕ, ◌+◌, ◌^◌, List, ◌∷◌, bit_or, Some, None}
+use Rattle.std.specs.Prelude.{◌≡◌, ℕ, ◌+◌, ◌*◌, ◌^◌, List, ◌∷◌, bit_or, Some, None}
 use Rattle.roundboard.specs.declared.board.Look.{Look}
 use Rattle.roundboard.specs.declared.board.Look.TheVariants.{Frozen, NotYet, Aborted}
 use Rattle.roundboard.specs.declared.board.Waited.{Waited}
@@ -12,8 +12,8 @@ use Rattle.roundboard.specs.declared.board.Posted.TheVariants.{InTime, Late}
 use Rattle.roundboard.specs.declared.board.PostFault.{PostFault}
 use Rattle.roundboard.specs.declared.board.PostFault.TheVariants.{OutOfMemory, Cell}
 use Rattle.roundboard.specs.declared.view.Event.{Event}
-use Rattle.roundboard.specs.declared.view.Deed.TheVariants.{Posted, Passed, Looked, SawControl}
-use Rattle.roundboard.specs.Rule.{In, event, control_round}
+use Rattle.roundboard.specs.declared.view.Deed.TheVariants.{Posted, Passed, Looked, SawControl, Cut}
+use Rattle.roundboard.specs.Rule.{event, control_round}
 use Rattle.roundboard.specs.Pages.{mask_in}
 use Rattle.roundboard.specs.Logs.{Arrival}
 use Rattle.roundboard.specs.Cells.{Rose, knows, missed}
@@ -49,11 +49,6 @@ abbrev pub LateBit : ℕ → Post → Type 0
 LateBit k (InTime w) = Unit {0}
 LateBit k (Late w) = bit_at w (30 + k) ≡ 1
 
--- and is that of a pen that had passed in the round r
-abbrev pub LatePass : ℕ → ℕ → List Event → Post → Type 0
-LatePass r k old (InTime w) = Unit {0}
-LatePass r k old (Late w) = (v : ℕ) × In (event r (Passed k v)) old
-
 -- a post of the place k in the round r, with the closing step where it is due
 abbrev pub PostTells : ℕ → ℕ → ℕ → Post → List Event → List Event → Type 0
 PostTells seats r k p old new = Arrival seats r (Posted k (word_of p)) (word_of p) (bit_or (word_of p) (2 ^ k)) old new
@@ -62,13 +57,17 @@ PostTells seats r k p old new = Arrival seats r (Posted k (word_of p)) (word_of 
 abbrev pub PassTells : ℕ → ℕ → ℕ → ℕ → List Event → List Event → Type 0
 PassTells seats r k w old new = Arrival seats r (Passed k w) w (bit_or w (2 ^ (30 + k))) old new
 
--- the value comes back, and the cell refused it where that is the answer
+-- a cut of the mask m in the round r, which found the word w
+abbrev pub CutTells : ℕ → ℕ → ℕ → ℕ → List Event → List Event → Type 0
+CutTells seats r m w old new = Arrival seats r (Cut m w) w (bit_or w (m * 2 ^ 30)) old new
+
+-- the value comes back, and the cell refused it where that is the answer; want of memory leaves the count of refusals
 abbrev pub FaultTells : {T : Type 0} → T → ℕ → ℕ → PostFault T → Type 0
-FaultTells x before now (OutOfMemory back) = back ≡ x
+FaultTells x before now (OutOfMemory back) = (back ≡ x) × (now ≡ before)
 FaultTells x before now (Cell back) = (back ≡ x) × Rose before now
 
--- a read of the cell i, of a place that is in the mask where the bit is 1
+-- a read of the cell i, of a place that is in the mask where the bit is 1; its count of misses rises where the cell showed no value, and else stands
 abbrev pub ReadTells : {T : Type 0} → ℕ → ℕ → Cells T → Cells T → Read T → Type 0
-ReadTells bit i old new Absent = bit ≡ 0
-ReadTells bit i old new (Got x) = (bit ≡ 1) × (knows new i ≡ Some x.now)
+ReadTells bit i old new Absent = (bit ≡ 0) × (missed new i ≡ missed old i)
+ReadTells bit i old new (Got x) = (bit ≡ 1) × (knows new i ≡ Some x.now) × (missed new i ≡ missed old i)
 ReadTells bit i old new Unread = (bit ≡ 1) × (knows old i ≡ None) × Rose (missed old i) (missed new i)

@@ -1,10 +1,10 @@
 -- What the calls of a board add to the log of a pen. Rounds and places count from 0.
 use Rattle.std.specs.Int.{bit_at}
-use Rattle.std.specs.Prelude.{◌≡◌, ℕ, ◌+◌, ◌⊎◌, ◌==◌, cond, List, [], ◌∷◌}
+use Rattle.std.specs.Prelude.{◌≡◌, ℕ, ◌+◌, ◌≤◌, ◌⊎◌, ◌==◌, cond, List, [], ◌∷◌}
 use Rattle.roundboard.specs.Rule.{In, event, control_round, IsFull}
 use Rattle.roundboard.specs.declared.view.Event.{Event}
 use Rattle.roundboard.specs.declared.view.Deed.{Deed}
-use Rattle.roundboard.specs.declared.view.Deed.TheVariants.{Posted, Passed, Closed, Lost, Published, Looked, SawControl}
+use Rattle.roundboard.specs.declared.view.Deed.TheVariants.{Posted, Passed, Closed, Lost, Published, Looked, SawControl, Cut}
 
 abbrev pub looks_in : Deed → ℕ
 looks_in (Looked f) = 1
@@ -40,21 +40,28 @@ OwnPosts place events = (r k w : ℕ) → In (event r (Posted k w)) events → k
 abbrev pub OwnPasses : ℕ → List Event → Type 0
 OwnPasses place events = (r k w : ℕ) → In (event r (Passed k w)) events → k ≡ place
 
+-- nobody was cut
+abbrev pub NoCuts : List Event → Type 0
+NoCuts events = (r m w : ℕ) → In (event r (Cut m w)) events → ⊥
+
 -- the log grew, and posts and passes that came are of round r
 pub record Grew (r : ℕ) (old new : List Event) : Type 0 where
   pub keep : (e : Event) → In e old → In e new
   pub posts : (q k w : ℕ) → In (event q (Posted k w)) new → In (event q (Posted k w)) old ⊎ (q ≡ r)
   pub passes : (q k w : ℕ) → In (event q (Passed k w)) new → In (event q (Passed k w)) old ⊎ (q ≡ r)
 
--- no post came
-pub record NoPosts (old new : List Event) : Type 0 where
+-- no post and no pass came
+pub record NoArrivals (old new : List Event) : Type 0 where
   pub posts : (q k w : ℕ) → In (event q (Posted k w)) new → In (event q (Posted k w)) old
+  pub passes : (q k w : ℕ) → In (event q (Passed k w)) new → In (event q (Passed k w)) old
 
 -- e is a load of the frozen word of round r, or of the control word
 abbrev pub IsLoad : ℕ → Event → Type 0
 IsLoad r e = ((f : ℕ) × (e ≡ event r (Looked f))) ⊎ ((c : ℕ) × (e ≡ event control_round (SawControl c)))
 
--- the log grew by loads of looks at round r alone
+-- the log grew by loads of looks at round r alone, and each of them counts
 pub record OnlyLooks (r : ℕ) (old new : List Event) : Type 0 where
   pub keep : (e : Event) → In e old → In e new
   pub loads : (e : Event) → In e new → In e old ⊎ IsLoad r e
+  pub frozen : frozen_loads r old ≤ frozen_loads r new
+  pub control : control_loads old ≤ control_loads new

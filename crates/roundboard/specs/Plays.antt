@@ -1,9 +1,9 @@
 -- What each step tells: of the step, the seat before, the number found and the seat after.
-use Rattle.std.specs.Prelude.{◌≡◌, ℕ, ◌+◌, ◌^◌, ◌≤◌, ◌⊎◌}
+use Rattle.std.specs.Prelude.{◌≡◌, ℕ, ◌+◌, ◌*◌, ◌^◌, ◌≤◌, ◌⊎◌}
 use Rattle.std.specs.Int.{bit_at}
 use Rattle.atomic_table.specs.Table.{Me, Step}
 use Rattle.roundboard.specs.declared.view.View.{View}
-use Rattle.roundboard.specs.declared.view.Deed.TheVariants.{Posted, Passed, Closed, Lost, Published, Looked, Aborted, SawControl}
+use Rattle.roundboard.specs.declared.view.Deed.TheVariants.{Posted, Passed, Closed, Lost, Published, Looked, Aborted, SawControl, Cut}
 use Rattle.roundboard.specs.Rule.{In, control_round, event, with_event, arrivals_of, frozen_of, frozen_word}
 
 -- what a seat is at one moment
@@ -14,13 +14,16 @@ Sat = Me (Unit {0}) View
 abbrev pub StepTells : Type 1
 StepTells = Step (Unit {0}) → Sat → ℕ → Sat → Type 0
 
--- a post that found the word closed found the passed bit of its place, and is that of a view that had passed
+-- a post that found the word closed found the passed bit of its place
 abbrev pub posted : StepTells
-posted st m found n = (r k : ℕ) → st.word ≡ arrivals_of r → st.first ≡ 2 ^ k → (n ≡ (with_event r (Posted k found) m.0, m.1)) × (bit_at found 63 ≡ 1 → (w : ℕ) × In (event r (Passed k w)) m.0.events)
-    × (bit_at found 63 ≡ 1 → bit_at found (30 + k) ≡ 1)
+posted st m found n = (r k : ℕ) → st.word ≡ arrivals_of r → st.first ≡ 2 ^ k → (n ≡ (with_event r (Posted k found) m.0, m.1)) × (bit_at found 63 ≡ 1 → bit_at found (30 + k) ≡ 1)
 
 abbrev pub passed : StepTells
 passed st m found n = (r k : ℕ) → st.word ≡ arrivals_of r → st.first ≡ 2 ^ (30 + k) → n ≡ (with_event r (Passed k found) m.0, m.1)
+
+-- the passed bits of all places of the mask are set at once
+abbrev pub cut : StepTells
+cut st m found n = (r seats : ℕ) → st.word ≡ arrivals_of r → st.first ≡ seats * 2 ^ 30 → n ≡ (with_event r (Cut seats found) m.0, m.1)
 
 -- a closing step that found the word closed comes too late
 abbrev pub closed : StepTells

@@ -8,7 +8,7 @@ use Rattle.atomic_table.specs.Table.{State}
 use Rattle.roundboard.specs.declared.view.View.{View}
 use Rattle.roundboard.specs.declared.view.Event.{Event}
 use Rattle.roundboard.specs.declared.view.Deed.{Deed}
-use Rattle.roundboard.specs.declared.view.Deed.TheVariants.{Posted, Passed, Closed, Published, Looked, Aborted, SawControl}
+use Rattle.roundboard.specs.declared.view.Deed.TheVariants.{Posted, Passed, Closed, Published, Looked, Aborted, SawControl, Cut}
 
 -- a is an element of the list
 abbrev pub In : {A : Type 0} → A → List A → Type 0
@@ -56,10 +56,11 @@ IsPart a b = (i : ℕ) → bit_at a i ≤ bit_at b i
 abbrev pub IsFull : ℕ → ℕ → Type 0
 IsFull n a = (k : ℕ) → k < n → 1 ≤ bit_at a k + bit_at a (30 + k)
 
--- the step d by which a seat arrived left the arrivals word x
+-- the step d by which a seat arrived, or by which the warden cut seats, left the arrivals word x
 abbrev pub Left : Deed → ℕ → Type 0
 Left (Posted k w) x = x ≡ bit_or w (2 ^ k)
 Left (Passed k w) x = x ≡ bit_or w (2 ^ (30 + k))
+Left (Cut m w) x = x ≡ bit_or w (m * 2 ^ 30)
 Left _ x = ⊥
 
 -- the view has an arrival of the round whose word, with its own bit, shows that all of n seats arrived
@@ -70,6 +71,10 @@ Showed n at v = (d : Deed) × (x : ℕ) × In (at d) v.events × Left d x × IsF
 abbrev pub HasShown : List View → ℕ → ℕ → ℕ → Type 0
 HasShown views n i r = (v : View) × (get_elem? views i ≡ some v) × Showed n (event r) v
 
+-- the place k passed, or was cut
+abbrev pub PassedBy : (Deed → Type 0) → ℕ → Type 0
+PassedBy H k = ((w : ℕ) × H (Passed k w)) ⊎ ((m : ℕ) × (w : ℕ) × H (Cut m w) × (bit_at m k ≡ 1))
+
 -- One round of n seats: the arrivals word a, the frozen word f, and the deeds H that some view did in it
 pub record RoundKept (n a f : ℕ) (H : Deed → Type 0) : Type 0 where
   -- who has posted has its bit, and what it found is part of the word
@@ -78,7 +83,10 @@ pub record RoundKept (n a f : ℕ) (H : Deed → Type 0) : Type 0 where
   pub posted : (k : ℕ) → k < 30 → bit_at a k ≡ 1 → (w : ℕ) × H (Posted k w)
   -- the same of passes
   pub passes : (k w : ℕ) → H (Passed k w) → (k < n) × (bit_at a (30 + k) ≡ 1) × IsPart w a
-  pub passed : (k : ℕ) → k < 30 → bit_at a (30 + k) ≡ 1 → (w : ℕ) × H (Passed k w)
+  -- what was cut is seats, each has its passed bit, and what the cut found is part of the word
+  pub cuts : (m w : ℕ) → H (Cut m w) → (m < 2 ^ n) × IsPart (m * 2 ^ 30) a × IsPart w a
+  -- a passed bit is somebody's pass, or the warden's cut
+  pub passed : (k : ℕ) → k < 30 → bit_at a (30 + k) ≡ 1 → PassedBy H k
   -- no bit but those of places and the closed bit is set
   pub spare : (k : ℕ) → 60 ≤ k → k < 63 → bit_at a k ≡ 0
   -- where there is a closing word the word is closed; the closing word was not, shows that all arrived, and is part of the word
@@ -106,9 +114,10 @@ pub record ControlKept (a : ℕ) (H : Deed → Type 0) : Type 0 where
   -- who has found the abort bit finds it again
   pub sees : (m : ℕ) → H (SawControl m) → bit_at m 0 ≤ bit_at a 0
 
--- what a view needs to do the deed d in round r: its own number where it arrives; where it closes, an arrival of its own that showed all seats; where it publishes, the closing word of its own
+-- what a view needs to do the deed d in round r: its own number where it arrives, and the number behind all seats' where it cuts; where it closes, an arrival of its own that showed all seats; where it publishes, the closing word of its own
 pub record Licence (n r : ℕ) (v : View) (d : Deed) : Type 0 where
   pub sits : (k w : ℕ) → (d ≡ Posted k w) ⊎ (d ≡ Passed k w) → In (k + 1) v.numbers
+  pub cuts : (m w : ℕ) → d ≡ Cut m w → In (n + 1) v.numbers
   pub arrived : (c : ℕ) → d ≡ Closed c → Showed n (event r) v
   pub closed : (c : ℕ) → d ≡ Published c → In (event r (Closed c)) v.events
 
@@ -121,6 +130,8 @@ pub record IsInOrder (n rounds : ℕ) (s : State (Unit {0}) View) : Type 0 where
   -- a seat's number stands in one view, which has its posts
   pub single : (i j k : ℕ) → Sits s.views i k → Sits s.views j k → i ≡ j
   pub own : (i r k w : ℕ) → Did s.views i r (Posted k w) ⊎ Did s.views i r (Passed k w) → Sits s.views i (k + 1)
+  -- who cuts is the warden, whose number comes behind those of all seats
+  pub warden : (i r m w : ℕ) → Did s.views i r (Cut m w) → Sits s.views i (n + 1)
   -- only a view that has shown all seats arrived closes, only the view that has closed publishes, and one view has closed
   pub licensed : (i r c : ℕ) → Did s.views i r (Closed c) → HasShown s.views n i r
   pub publisher : (i r c : ℕ) → Did s.views i r (Published c) → Did s.views i r (Closed c)

@@ -2,6 +2,7 @@
 ghost use Rattle.std.specs.Prelude.{◌≡◌, ℕ, ◌+◌, ◌*◌, ◌<◌, ◌≤◌, length, None};
 ghost use Rattle.roundboard.specs.Rule.{In, event};
 ghost use Rattle.roundboard.specs.Cells.{knows};
+ghost use Rattle.roundboard.specs.Logs.{NoCuts};
 ghost use Rattle.roundboard.specs.declared.view.Deed.TheVariants.{Posted as Posting};
 
 use crate::cells::Cells;
@@ -29,6 +30,7 @@ pub struct Pen<T: Drop, const S: usize> {
     pub(crate) ghost refusals: { length cells.refusals.items ≡ length log.pages.items },
     pub(crate) ghost misses: { length cells.misses.items ≡ length log.pages.items * S },
     pub(crate) ghost kept: { (r k w : ℕ) → In (event r (Posting k w)) log.seat.me.0.events → ¬ (knows cells (r * S + log.place) ≡ None) },
+    pub(crate) ghost uncut: { NoCuts log.seat.me.0.events },
 }
 
 /// Whether a post came before its round was closed, with the arrivals word that its step found.
@@ -36,7 +38,7 @@ pub struct Pen<T: Drop, const S: usize> {
 pub enum Posted {
     /// The word was not closed, so the seat is in the round's mask.
     InTime { word: u64 },
-    /// The word was closed, so the seat is not in the round's mask. Only a seat that had passed is ever late.
+    /// The word was closed, so the seat is not in the round's mask. Only a seat that had passed, or was cut, is ever late.
     Late { word: u64 },
 }
 

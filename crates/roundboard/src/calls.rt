@@ -2,10 +2,10 @@
 ghost use Rattle.std.specs.Prelude.{◌≡◌, ℕ, ◌+◌, ◌-◌, ◌%◌, ◌^◌, ◌<◌, ◌≤◌, ◌⊎◌, ◌∷◌, [], false, IfOk, IfErr, IfSome, Some, None, OnOk, IsSome};
 ghost use Rattle.std.specs.Int.{bit_at};
 ghost use Rattle.roundboard.specs.Rule.{In, event, control_round};
-ghost use Rattle.roundboard.specs.Cells.{OnlyKnows, SameRefusals, SameMisses};
+ghost use Rattle.roundboard.specs.Cells.{OnlyKnows, OnlyRefused, OnlyMissed, SameRefusals, SameMisses};
 ghost use Rattle.roundboard.specs.Logs.{frozen_loads, control_loads};
-ghost use Rattle.roundboard.specs.Pens.{IsPen, events, log_of, cells_of, cell_of, place_of, mask_of, posted_in, known_of, refusals_of, rounds_of};
-ghost use Rattle.roundboard.specs.Answers.{LookTells, PostTells, PassTells, Timely, LateBit, LatePass, FaultTells, ReadTells};
+ghost use Rattle.roundboard.specs.Pens.{IsPen, events, log_of, cells_of, cell_of, place_of, mask_of, posted_in, known_of, refusals_of, misses_of, rounds_of};
+ghost use Rattle.roundboard.specs.Answers.{LookTells, PostTells, PassTells, Timely, LateBit, FaultTells, ReadTells};
 ghost use Rattle.roundboard.specs.declared.view.Deed.TheVariants.{Closed as Closing, Aborted as Aborting, SawControl as SeeingControl};
 
 use crate::board::{Board, Look, Passed, Pen, PostFault, Posted, Read};
@@ -15,11 +15,11 @@ use std::alloc::{AllocFailed, Global};
 impl<T: Drop, const S: usize> Board<T, S> {
     /// Posts the value for the pen's seat, which has not posted in the round. The round counts from 1.
     ///
-    /// The value is set in the seat's cell first; then one step sets the posted bit. `InTime` comes exactly where the word that the step found was not closed. `Late` comes only where the pen had passed in this round; the word that was found then has its passed bit.
+    /// The value is set in the seat's cell first; then one step sets the posted bit. `InTime` comes exactly where the word that the step found was not closed. `Late` comes only where the pen had passed in this round or the warden had cut its seat; the word that was found then has its passed bit.
     ///
     /// Where that word, with the own bit, shows that all seats have posted or passed and is not closed, the call takes a closing step. If that was the first to close the round, the call has published the mask and this pen has seen it.
     ///
-    /// After a fault the value comes back, and the pen's rounds and the words are as they were.
+    /// After a fault the value comes back, and the pen's rounds and the words are as they were. `Cell` comes only where the seat's cell of this round refused the value, and then the count of refusals of the round was raised by one; no other count changes.
     pub fn post(
         &self,
         alloc: Global,
@@ -34,13 +34,13 @@ impl<T: Drop, const S: usize> Board<T, S> {
         ensures place { place_of pen.new ≡ place_of pen.old }
         ensures timely { IfOk result Timely }
         ensures late_bit { IfOk result (LateBit (place_of pen.old)) }
-        ensures late_pass { IfOk result (LatePass (round - 1) (place_of pen.old) (events pen.old)) }
         ensures told { IfOk result (λ p. PostTells S (round - 1) (place_of pen.old) p (events pen.old) (events pen.new)) }
         ensures closer { (c : ℕ) → In (event (round - 1) (Closing c)) (events pen.new) → In (event (round - 1) (Closing c)) (events pen.old) ⊎ (mask_of pen.new round ≡ Some (c % 2 ^ 30)) }
         ensures value { OnOk result (known_of pen.new round (place_of pen.old + 1) ≡ Some value) }
         ensures cells { OnlyKnows (cell_of S (round - 1) (place_of pen.old)) (cells_of pen.old) (cells_of pen.new) }
         ensures misses { SameMisses (cells_of pen.old) (cells_of pen.new) }
         ensures refusals { OnOk result (SameRefusals (cells_of pen.old) (cells_of pen.new)) }
+        ensures other_refusals { OnlyRefused (round - 1) (cells_of pen.old) (cells_of pen.new) }
         ensures kept { IfErr result (λ _. events pen.new ≡ events pen.old) }
         ensures fault { IfErr result (FaultTells value (refusals_of pen.old round) (refusals_of pen.new round)) }
     {
@@ -108,7 +108,7 @@ impl<T: Drop, const S: usize> Board<T, S> {
 
     /// Reads the post of a seat in a round whose mask the pen has seen. Round and seat count from 1. `Absent` comes exactly where the mask lacks the seat.
     ///
-    /// A value that is read is the one that the seat posted: every pen reads the same, and so does the closed board.
+    /// A value that is read is the one that the seat posted: every pen reads the same, and so does the closed board. `NotYet` comes only where the seat's cell showed no value and the pen knew none of it, and then the count of misses of this round and seat was raised by one; no other count changes.
     pub fn read<'a>(&'a self, pen: &mut Pen<T, S>, round: u32, seat: u32) -> Read<'a, T>
         requires pen { IsPen self.now pen.old }
         requires round { (1 ≤ round) × (round ≤ rounds_of self.now) }
@@ -118,6 +118,8 @@ impl<T: Drop, const S: usize> Board<T, S> {
         ensures log { log_of pen.new ≡ log_of pen.old }
         ensures cells { OnlyKnows (cell_of S (round - 1) (seat - 1)) (cells_of pen.old) (cells_of pen.new) }
         ensures refusals { SameRefusals (cells_of pen.old) (cells_of pen.new) }
+        ensures misses { misses_of pen.old round seat ≤ misses_of pen.new round seat }
+        ensures other_misses { OnlyMissed (cell_of S (round - 1) (seat - 1)) (cells_of pen.old) (cells_of pen.new) }
         ensures told { IfSome (mask_of pen.old round) (λ m. ReadTells (bit_at m (seat - 1)) (cell_of S (round - 1) (seat - 1)) (cells_of pen.old) (cells_of pen.new) result) }
     {
         let row = round as usize - 1;

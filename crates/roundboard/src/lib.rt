@@ -17,10 +17,12 @@ mod rule;
 mod start;
 mod view;
 mod waits;
+mod warden;
 mod words;
 
 pub use board::{Board, Look, Passed, Pen, PostFault, Posted, Read, Waited};
 pub use finish::{ClosedBoard, FinishFault, Reader};
+pub use warden::Warden;
 
 #[cfg(test)]
 mod tests;

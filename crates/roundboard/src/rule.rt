@@ -1,6 +1,6 @@
 //! The rule of the board's words, and the names of its steps.
 ghost use Rattle.roundboard.specs.Rule.{IsInOrder, opened, given_out, entered, both_of, spent};
-ghost use Rattle.roundboard.specs.Plays.{posted, passed, closed, published, looked, aborted, controlled};
+ghost use Rattle.roundboard.specs.Plays.{posted, passed, cut, closed, published, looked, aborted, controlled};
 
 use crate::view::View;
 use atomic_table::{Join, Play, Split, TableRule};
@@ -51,6 +51,13 @@ pub struct Pass;
 
 impl Play<(), View> for Pass {
     ghost then = { passed };
+}
+
+/// The passed bits of a mask of seats are set.
+pub struct Cut;
+
+impl Play<(), View> for Cut {
+    ghost then = { cut };
 }
 
 /// The closed bit is set.

@@ -2,13 +2,15 @@
 ghost use Rattle.std.specs.Prelude.{◌≡◌, ℕ, ◌+◌, ◌-◌, ◌*◌, ◌<◌, ◌≤◌, ◌∷◌, [], length, IfOk, Some, slice_get, replicate};
 ghost use Rattle.roundboard.specs.Cells.{cell_names};
 ghost use Rattle.roundboard.specs.Pens.{IsFresh, Seated, rounds_of, note_names, AllUnknown};
+ghost use Rattle.roundboard.specs.Wardens.{IsFreshWarden};
 ghost use Rattle.roundboard.specs.Rule.{view, opened};
 
 use crate::board::{Board, Pen};
 use crate::cells::Cells;
 use crate::log::Log;
-use crate::page::Page;
+use crate::page::{Page, Sheet};
 use crate::rule::Shape;
+use crate::warden::Warden;
 use crate::words::{Seat, Words};
 use lists::OutOfMemory;
 use once_cell::race::{Note, OnceBox};
@@ -82,15 +84,16 @@ fn pen_of<T: Drop, const S: usize>(
     Ok(Pen { log, cells })
 }
 
-// The pens of all seats, whose numbers the head gives out.
+// The pens of all seats, whose numbers the head gives out, and the head.
 fn pens_of<T: Drop, const S: usize>(
     alloc: Global,
     board: &Board<T, S>,
     head: Seat,
-) -> Result<Vec<Pen<T, S>>, AllocError>
+) -> Result<(Vec<Pen<T, S>>, Seat), AllocError>
     requires head { (head.table_id ≡ board.now.words.table.shared.table_id) × (head.me ≡ (opened, [])) }
-    ensures count { IfOk result (λ v. length v.items ≡ S) }
-    ensures pens { IfOk result (λ v. (k : ℕ) (p : _) → slice_get v.items k ≡ Some p → IsFresh board.now k p) }
+    ensures count { IfOk result (λ v. length v.0.items ≡ S) }
+    ensures pens { IfOk result (λ v. (k : ℕ) (p : _) → slice_get v.0.items k ≡ Some p → IsFresh board.now k p) }
+    ensures head { IfOk result (λ v. (v.1.table_id ≡ board.now.words.table.shared.table_id) × (v.1.me ≡ (view (S + 1) (0 ∷ []) [], []))) }
 {
     let mut head = head;
     let mut pens = Vec::new(alloc);
@@ -98,17 +101,39 @@ fn pens_of<T: Drop, const S: usize>(
         let seat = board.words.enter(&mut head);
         pens.push(pen_of(alloc, board, place, seat)?)?;
     }
-    Ok(pens)
+    Ok((pens, head))
+}
+
+// The warden, whose number comes behind those of all seats.
+fn warden_of<T: Drop, const S: usize>(
+    alloc: Global,
+    board: &Board<T, S>,
+    head: Seat,
+) -> Result<Warden<S>, AllocError>
+    requires head { (head.table_id ≡ board.now.words.table.shared.table_id) × (head.me ≡ (view (S + 1) (0 ∷ []) [], [])) }
+    ensures { IfOk result (IsFreshWarden board.now) }
+{
+    let mut head = head;
+    let seat = board.words.enter(&mut head);
+    let rounds = board.words.shape.rounds as usize;
+    let log = log_of(alloc, rounds, S as u64, seat)?;
+    let empty = Sheet { cut: 0, shown: 0 };
+    let sheets = Vec::from_elem(alloc, empty, rounds)?;
+    Ok(Warden { log, sheets })
 }
 
 impl<T: Drop, const S: usize> Board<T, S> {
-    /// An empty board of 1 to 8 rounds for 2 to 30 seats, and its S pens in order of seats. All memory of the words and the cells is taken here.
-    pub fn start(alloc: Global, rounds: u32) -> Result<(Board<T, S>, Vec<Pen<T, S>>), OutOfMemory>
+    /// An empty board of 1 to 8 rounds for 2 to 30 seats, its S pens in order of seats, and its warden. All memory of the words and the cells is taken here.
+    pub fn start(
+        alloc: Global,
+        rounds: u32,
+    ) -> Result<(Board<T, S>, Vec<Pen<T, S>>, Warden<S>), OutOfMemory>
         requires seats { (2 ≤ S) × (S ≤ 30) }
         requires rounds { (1 ≤ rounds) × (rounds ≤ 8) }
         ensures rounds { IfOk result (λ b. rounds_of b.0 ≡ rounds) }
         ensures pens { IfOk result (λ b. Seated b.0 b.1.items) }
         ensures fresh { IfOk result (λ b. (k : ℕ) (p : _) → slice_get b.1.items k ≡ Some p → IsFresh b.0 k p) }
+        ensures warden { IfOk result (λ b. IsFreshWarden b.0 b.2) }
     {
         let shape = Shape {
             seats: S as u64,
@@ -117,7 +142,8 @@ impl<T: Drop, const S: usize> Board<T, S> {
         let (words, head) = Words::new(alloc, shape)?;
         let cells = empty_cells(alloc, rounds as usize * S)?;
         let board = Board { words, cells };
-        let pens = pens_of(alloc, &board, head)?;
-        Ok((board, pens))
+        let (pens, head) = pens_of(alloc, &board, head)?;
+        let warden = warden_of(alloc, &board, head)?;
+        Ok((board, pens, warden))
     }
 }

@@ -4,9 +4,11 @@ ghost use Rattle.std.specs.Int.{bit_at};
 ghost use Rattle.roundboard.specs.Ends.{Ends};
 ghost use Rattle.roundboard.specs.Pages.{mask_in};
 ghost use Rattle.roundboard.specs.Rule.{In, control_round, IsFull, Showed, arrivals_of, frozen_of, frozen_word, event, with_event, opened, given_out, entered, both_of};
-ghost use Rattle.roundboard.specs.declared.view.Deed.TheVariants.{Posted as Posting, Passed as Passing, Closed as Closing, Lost as Losing, Published as Publishing, Looked as Looking, Aborted as Aborting, SawControl as SeeingControl};
+ghost use Rattle.roundboard.specs.declared.view.Deed.TheVariants.{Posted as Posting, Passed as Passing, Closed as Closing, Lost as Losing, Published as Publishing, Looked as Looking, Aborted as Aborting, SawControl as SeeingControl, Cut as Cutting};
 
-use crate::rule::{Abort, Close, Control, Enter, Gather, Look, Order, Pass, Post, Publish, Shape};
+use crate::rule::{
+    Abort, Close, Control, Cut, Enter, Gather, Look, Order, Pass, Post, Publish, Shape,
+};
 use crate::view::View;
 use atomic_table::Table;
 use std::alloc::{AllocError, Global};
@@ -18,6 +20,9 @@ pub(crate) type Seat = atomic_table::Seat<(), View>;
 const CLOSED: u64 = 1 << 63;
 
 const PLACES: u64 = (1 << 30) - 1;
+
+// The passed bit of the first place.
+const FIRST_PASSED: u64 = 1 << 30;
 
 // The longest sleep between two looks of a wait, in milliseconds.
 const NAP: u64 = 1;
@@ -39,6 +44,14 @@ pub(crate) fn bit_of(place: u64) -> u64
     ensures { result ≡ 2 ^ place }
 {
     1 << place
+}
+
+// The passed bits of a mask of seats.
+pub(crate) fn raised(seats: u64) -> u64
+    requires { seats < 2 ^ 30 }
+    ensures { result ≡ seats * 2 ^ 30 }
+{
+    seats * FIRST_PASSED
 }
 
 // Whether an arrivals word is closed.
@@ -108,7 +121,6 @@ impl Words {
         requires fresh { (w : _) → ¬ (In (event round (Posting place w)) seat.old.me.0.events) }
         ensures same { (seat.new.table_id ≡ seat.old.table_id) × (seat.new.id ≡ seat.old.id) }
         ensures told { seat.new.me ≡ (with_event round (Posting place result) seat.old.me.0, seat.old.me.1) }
-        ensures late { bit_at result 63 ≡ 1 → (w : _) × In (event round (Passing place w)) seat.old.me.0.events }
         ensures bit { bit_at result 63 ≡ 1 → bit_at result (30 + place) ≡ 1 }
     {
         self.table
@@ -126,6 +138,20 @@ impl Words {
         self.table
             .shared
             .fetch_or::<Pass>(seat, 2 * round as usize + 1, bit_of(30 + place))
+    }
+
+    // Sets the passed bits of a mask of seats, for the warden. Answers the word that was found.
+    pub(crate) fn cut(&self, seat: &mut Seat, round: u64, seats: u64) -> u64
+        requires seat { (seat.old.table_id ≡ self.now.table.shared.table_id) × In (self.now.shape.seats + 1) seat.old.me.0.numbers }
+        requires round { round < self.now.shape.rounds }
+        requires seats { seats < 2 ^ self.now.shape.seats }
+        requires low { seats < 2 ^ 30 }
+        ensures same { (seat.new.table_id ≡ seat.old.table_id) × (seat.new.id ≡ seat.old.id) }
+        ensures told { seat.new.me ≡ (with_event round (Cutting seats result) seat.old.me.0, seat.old.me.1) }
+    {
+        self.table
+            .shared
+            .fetch_or::<Cut>(seat, 2 * round as usize + 1, raised(seats))
     }
 
     // Sets the closed bit, where an arrival of the seat showed that all seats had arrived. Answers the word that was found.
