@@ -1,0 +1,4 @@
+pub mod Picks
+pub mod Tallies
+pub mod Conducts
+pub mod Conductors

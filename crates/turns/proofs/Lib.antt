@@ -1,0 +1,9 @@
+pub mod Rings
+pub mod Hearing
+pub mod Rounds
+pub mod Forward
+pub mod Gather
+pub mod Phase
+pub mod Everyone
+pub mod Posts
+pub mod Cuts
