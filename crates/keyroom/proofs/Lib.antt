@@ -4,7 +4,7 @@ pub mod Loops
 pub mod Deciding
 pub mod Reading
 pub mod Spelling
-pub mod Creates
+pub mod Makings
 pub mod Refusals
 pub mod Honest
 pub mod Checking
@@ -12,3 +12,4 @@ pub mod Valid
 pub mod Working
 pub mod RoundTrip
 pub mod Rising
+pub mod Counting

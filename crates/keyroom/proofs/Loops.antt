@@ -84,11 +84,11 @@ round_written masks k front old new lt so_far wrote =
     wrote ∙ ap (λ (t : List ℕ). old ++ t) (round_text (k + 1) (get_or masks k 0)) ∙ ap (λ (t : List ℕ). t ++ l) so_far ∙ append_assoc front (round_lines 1 (take k masks)) l
     ∙ ap (λ (t : List ℕ). front ++ t) (sym (ap (round_lines 1) (take_more masks k 0 lt) ∙ rounds_push 1 (k + 1) (take k masks) (get_or masks k 0) (omega (arith, length-take k masks))))
 
--- one more index
-pub index_written : (indexes : List ℕ) (k : ℕ) (front old new : List ℕ) → k < length indexes → old ≡ front ++ flat_map (λ index. codes " " ++ decimal index) (take k indexes) →
-    new ≡ old ++ (codes " " ++ decimal (get_or indexes k 0)) → new ≡ front ++ flat_map (λ index. codes " " ++ decimal index) (take (k + 1) indexes)
-index_written indexes k front old new lt so_far wrote =
-    let word : ℕ → List ℕ = λ index. codes " " ++ decimal index in
-    let i = get_or indexes k 0 in
-    wrote ∙ ap (λ (t : List ℕ). t ++ word i) so_far ∙ append_assoc front (flat_map word (take k indexes)) (word i)
-    ∙ ap (λ (t : List ℕ). front ++ t) (sym (ap (flat_map word) (take_more indexes k 0 lt) ∙ flat_map-append word (take k indexes) (i ∷ []) ∙ ap (λ (t : List ℕ). flat_map word (take k indexes) ++ t) (append-nil (word i))))
+-- one more word of a list of words
+module _ {X : Type 0} (word : X → List ℕ) where
+  pub word_written : (xs : List X) (k : ℕ) (d : X) (front old new : List ℕ) → k < length xs → old ≡ front ++ flat_map word (take k xs) →
+      new ≡ old ++ word (get_or xs k d) → new ≡ front ++ flat_map word (take (k + 1) xs)
+  word_written xs k d front old new lt so_far wrote =
+      let x = get_or xs k d in
+      wrote ∙ ap (λ (t : List ℕ). t ++ word x) so_far ∙ append_assoc front (flat_map word (take k xs)) (word x)
+      ∙ ap (λ (t : List ℕ). front ++ t) (sym (ap (flat_map word) (take_more xs k d lt) ∙ flat_map-append word (take k xs) (x ∷ []) ∙ ap (λ (t : List ℕ). flat_map word (take k xs) ++ t) (append-nil (word x))))

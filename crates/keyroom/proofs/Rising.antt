@@ -1,5 +1,5 @@
 -- Seals one after another take document numbers that rise.
-use Rattle.std.proofs.Common.{◌≡◌, ◌≢◌, ℕ, ◌+◌, ◌^◌, ◌<◌, Bool, true, false, cond, List, Option, Some, None, Result, Ok, Err, refl, sym, ap, ◌∙◌, subst, arith}
+use Rattle.std.proofs.Common.{◌≡◌, ◌≢◌, ℕ, ◌+◌, Bool, true, false, cond, List, Option, Some, None, Ok, refl, sym, ap, ◌∙◌, arith}
 use Rattle.std.specs.Str.{bytes_eq}
 use Rattle.std.specs.Ordering.{nat_cmp, eq_by_cmp}
 use Rattle.std.specs.Cmp.Lexicographic.{slice_cmp, nat_list_cmp_total}
@@ -11,12 +11,11 @@ use Rattle.sharefile.specs.Files.{Now, IsNow, now_bytes}
 use Rattle.sharefile.specs.Reading.{now_at}
 use Rattle.sharefile.proofs.Steps.{IsBytes}
 use Rattle.sharefile.proofs.NowLaws.{now_taken, now_again}
-use Rattle.keyroom.specs.declared.status.Status.{Status}
 use Rattle.keyroom.specs.declared.document.Direction.TheVariants.{Sealing}
 use Rattle.keyroom.specs.Names.{now_name}
-use Rattle.keyroom.specs.Steps.{now_named, now_step, now_of, free_step, free_of}
+use Rattle.keyroom.specs.Steps.{now_named, now_step, now_of, free_step}
 use Rattle.keyroom.specs.Work.{Work}
-use Rattle.keyroom.specs.Seal.{raised, seal_work}
+use Rattle.keyroom.specs.Seal.{raised}
 use Rattle.keyroom.specs.Document.{MeansWork}
 use Rattle.keyroom.proofs.Reading.{now_read}
 use Rattle.keyroom.proofs.RoundTrip.{WasSealed, was_sealed, get_put}

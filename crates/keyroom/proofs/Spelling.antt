@@ -1,11 +1,11 @@
 -- Words are at most one command's spelling: a function on words gives each command back from its spelling.
-use Rattle.std.proofs.Common.{◌≡◌, ℕ, ◌+◌, ◌*◌, ◌-◌, ◌^◌, ◌<◌, Bool, true, false, cond, List, [], ◌∷◌, get_or, drop, Option, Some, None, refl, sym, ap, ◌∙◌, subst, arith}
+use Rattle.std.proofs.Common.{◌≡◌, ℕ, ◌^◌, ◌<◌, true, cond, List, [], ◌∷◌, get_or, drop, Option, Some, None, refl, sym, ap, ◌∙◌, arith}
 use Rattle.std.specs.Prelude.{codes, decimal}
 use Rattle.std.specs.Str.{bytes_eq}
 use Rattle.std.proofs.lemmas.Bool.Decides.{nat_tests}
 use Rattle.std.proofs.lemmas.Fmt.{digits_value-decimal}
 use Rattle.sizes.specs.Committees.{is_size, is_bound}
-use Rattle.keyroom.specs.Words.{Command, Create, Recover, Check, Seal, Open, IsInRange, optional, spelling, ReadsAs}
+use Rattle.keyroom.specs.Words.{Command, Create, Refresh, Move, Recover, Check, Seal, Open, MakesInRange, IsInRange, optional, spelling, ReadsAs}
 use Rattle.decimals.specs.Decimals.{number_of}
 use Rattle.decimals.proofs.Numbers.{own}
 
@@ -19,14 +19,20 @@ abbrev first_of : List (List ℕ) → Option (List ℕ)
 first_of [] = None
 first_of (word ∷ words) = Some word
 
+-- the command that makes a committee, by the words behind the first
+abbrev made_at : (List ℕ → ℕ → ℕ → Option (List ℕ) → Command) → List (List ℕ) → Command
+made_at make words = make (get_or words 1 []) (number_of (get_or words 2 [])) (number_of (get_or words 3 [])) (first_of (drop 4 words))
+
 -- the command that words spell, whatever they are where they spell none
 abbrev pub command_at : List (List ℕ) → Command
 command_at words =
-    cond (bytes_eq (get_or words 0 []) (codes "create")) (Create (get_or words 1 []) (number_of (get_or words 2 [])) (number_of (get_or words 3 [])) (first_of (drop 4 words)))
+    cond (bytes_eq (get_or words 0 []) (codes "create")) (made_at Create words)
+    (cond (bytes_eq (get_or words 0 []) (codes "refresh")) (Refresh (get_or words 1 []) (first_of (drop 2 words)))
+    (cond (bytes_eq (get_or words 0 []) (codes "move")) (made_at Move words)
     (cond (bytes_eq (get_or words 0 []) (codes "recover")) (Recover (get_or words 1 []))
     (cond (bytes_eq (get_or words 0 []) (codes "check")) (Check (get_or words 1 []))
     (cond (bytes_eq (get_or words 0 []) (codes "seal")) (Seal (get_or words 1 []) (get_or words 2 []) (get_or words 3 []))
-    (Open (get_or words 1 []) (get_or words 2 []) (get_or words 3 [])))))
+    (Open (get_or words 1 []) (get_or words 2 []) (get_or words 3 [])))))))
 
 first_back : (drill : Option (List ℕ)) → first_of (optional drill) ≡ drill
 first_back None = refl
@@ -35,12 +41,15 @@ first_back (Some file) = refl
 pub value_back : (n : ℕ) → n < 2 ^ 32 → number_of (decimal n) ≡ n
 value_back n fits = digits_value-decimal own n (omega (arith, fits))
 
-create_same : (name : List ℕ) (n m t u : ℕ) (drill file : Option (List ℕ)) → n ≡ m → t ≡ u → drill ≡ file → Create name n t drill ≡ Create name m u file
-create_same name n m t u drill file e f g = rw (e, f, g) refl
+made_back : (make : List ℕ → ℕ → ℕ → Option (List ℕ) → Command) (name : List ℕ) (n t : ℕ) (drill : Option (List ℕ)) → MakesInRange name n t drill →
+    make name (number_of (decimal n)) (number_of (decimal t)) (first_of (optional drill)) ≡ make name n t drill
+made_back make name n t drill is = rw (value_back n (small_size n is.1), value_back t (small_bound n t is.1 is.2), first_back drill) refl
 
 -- each command is given back
 pub spelled_back : (command : Command) → IsInRange command → command_at (spelling command) ≡ command
-spelled_back (Create name n t drill) is = create_same name _ n _ t _ drill (value_back n (small_size n is.1)) (value_back t (small_bound n t is.1 is.2)) (first_back drill)
+spelled_back (Create name n t drill) is = made_back Create name n t drill is
+spelled_back (Refresh name drill) is = ap (Refresh name) (first_back drill)
+spelled_back (Move name n t drill) is = made_back Move name n t drill is
 spelled_back (Recover name) is = refl
 spelled_back (Check name) is = refl
 spelled_back (Seal name doc target) is = refl

@@ -33,9 +33,9 @@ use Rattle.keyroom.specs.Causes.{Cause, Done, Refusal, Shelf, Entropy, Sink, Mem
 use Rattle.keyroom.specs.Outcome.{Then}
 use Rattle.keyroom.specs.Answer.{IsPartWay}
 use Rattle.keyroom.specs.Names.{now_name}
-use Rattle.keyroom.specs.Steps.{Asked, now_named, now_step, now_of, free_step, free_of, bytes_step, bytes_of, asked_of, sealable, files_of, ◌and_then◌}
+use Rattle.keyroom.specs.Steps.{Asked, now_named, now_step, now_of, free_step, free_of, bytes_step, bytes_of, asked_of, files_of, ◌and_then◌}
 use Rattle.keyroom.specs.Decoding.{HonestFiles}
-use Rattle.keyroom.specs.Recover.{recovered_by, MeansKeyOf, MeansKey}
+use Rattle.keyroom.specs.Recover.{MeansKeyOf, MeansKey}
 use Rattle.keyroom.specs.Work.{Work, Keys, KeyIsOf, Stops, Works, Finishes}
 use Rattle.keyroom.specs.Seal.{seal_work, SealsUnder}
 use Rattle.keyroom.specs.Open.{open_work, OpensUnder}

@@ -7,6 +7,7 @@ pub mod Outcome
 pub mod Changes
 pub mod Answer
 pub mod Steps
+pub mod Sound
 pub mod Decoding
 pub mod Recover
 pub mod Check

@@ -1,5 +1,5 @@
 -- What is printed.
-use Rattle.std.specs.Prelude.{ℕ, suc, List, [], ◌∷◌, ◌++◌, ◌/◌, ◌%◌, codes, decimal, false}
+use Rattle.std.specs.Prelude.{ℕ, suc, List, [], ◌∷◌, ◌++◌, ◌*◌, ◌/◌, ◌%◌, codes, decimal, false}
 use Rattle.std.specs.List.{flat_map}
 use Rattle.std.specs.Fmt.{digit_glyph}
 use Rattle.sharefile.specs.Files.{Now}
@@ -16,6 +16,12 @@ line text = text ++ 10 ∷ []
 -- `NAME N T period K`
 abbrev pub committee_words : Now → List ℕ
 committee_words f = f.name ++ (codes " " ++ (decimal f.n ++ (codes " " ++ (decimal f.t ++ (codes " period " ++ decimal f.period)))))
+
+-- `NAME N T to M U period K` of a key that goes from the first committee to the second, whose period is K
+abbrev pub move_words : Now → Now → List ℕ
+move_words old new =
+    old.name ++ (codes " " ++ (decimal old.n ++ (codes " " ++ (decimal old.t
+    ++ (codes " to " ++ (decimal new.n ++ (codes " " ++ (decimal new.t ++ (codes " period " ++ decimal new.period)))))))))
 
 abbrev pub state_text : MemberState → List ℕ
 state_text Missing = codes "missing"
@@ -51,14 +57,41 @@ round_lines round (mask ∷ masks) = line (codes "round " ++ (decimal round ++ (
 abbrev pub accepted_line : ℕ → ℕ → List ℕ
 accepted_line accepted instances = line (codes "accepted " ++ (decimal accepted ++ (codes " of " ++ decimal instances)))
 
+-- what a phase came to: the masks of the rounds, and how many of how many instances were accepted
+abbrev pub phase_lines : List ℕ → ℕ → ℕ → List ℕ
+phase_lines masks accepted instances = round_lines 1 masks ++ accepted_line accepted instances
+
+-- indexes, each behind a space
+abbrev pub indexes_text : List ℕ → List ℕ
+indexes_text indexes = flat_map (λ index. codes " " ++ decimal index) indexes
+
+-- `corrected none`, or `corrected` and the indexes of the old members whose shares were corrected
+abbrev pub corrected_line : List ℕ → List ℕ
+corrected_line [] = line (codes "corrected none")
+corrected_line (index ∷ indexes) = line (codes "corrected" ++ indexes_text (index ∷ indexes))
+
 -- `shares` and the indexes that got a share file
 abbrev pub shares_line : List ℕ → List ℕ
-shares_line indexes = line (codes "shares" ++ flat_map (λ index. codes " " ++ decimal index) indexes)
+shares_line indexes = line (codes "shares" ++ indexes_text indexes)
 
--- what a create prints: the masks of its rounds, how many instances were accepted, and who got a share file
+-- what a command prints that begins a period of one committee, by its word: the committee and the period, what the phase
+-- came to, and who got a share file
+abbrev pub period_text : List ℕ → Now → List ℕ → ℕ → ℕ → List ℕ → List ℕ
+period_text verb f masks accepted instances indexes =
+    line (verb ++ (codes " " ++ committee_words f)) ++ (phase_lines masks accepted instances ++ shares_line indexes)
+
 abbrev pub create_text : Now → List ℕ → ℕ → ℕ → List ℕ → List ℕ
-create_text f masks accepted instances indexes =
-    line (codes "create " ++ committee_words f) ++ (round_lines 1 masks ++ (accepted_line accepted instances ++ shares_line indexes))
+create_text f masks accepted instances indexes = period_text (codes "create") f masks accepted instances indexes
+
+-- the period is the new one
+abbrev pub refresh_text : Now → List ℕ → ℕ → ℕ → List ℕ → List ℕ
+refresh_text f masks accepted instances indexes = period_text (codes "refresh") f masks accepted instances indexes
+
+-- what a move prints: both committees and the new period, what the phase came to with five instances of each old member,
+-- whose old shares were corrected, and which new members got a share file
+abbrev pub move_text : Now → Now → List ℕ → ℕ → List ℕ → List ℕ → List ℕ
+move_text old new masks accepted corrected indexes =
+    line (codes "move " ++ move_words old new) ++ (phase_lines masks accepted (5 * old.n) ++ (corrected_line corrected ++ shares_line indexes))
 
 -- what a seal or an open prints, by its word: the document's number and length
 abbrev pub document_text : List ℕ → List ℕ → ℕ → ℕ → List ℕ

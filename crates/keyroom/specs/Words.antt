@@ -7,6 +7,8 @@ use Rattle.sizes.specs.Committees.{is_size, is_bound}
 -- a command, by its words
 pub data Command : Type 0 where
   Create : List ℕ → ℕ → ℕ → Option (List ℕ) → Command
+  Refresh : List ℕ → Option (List ℕ) → Command
+  Move : List ℕ → ℕ → ℕ → Option (List ℕ) → Command
   Recover : List ℕ → Command
   Check : List ℕ → Command
   Seal : List ℕ → List ℕ → List ℕ → Command
@@ -22,8 +24,14 @@ abbrev pub optional : Option (List ℕ) → List (List ℕ)
 optional None = []
 optional (Some word) = word ∷ []
 
+-- the words behind the first of a command that makes a committee: the key's name, the committee's size and bound, and a drill
+abbrev pub making_words : List ℕ → ℕ → ℕ → Option (List ℕ) → List (List ℕ)
+making_words name n t drill = name ∷ decimal n ∷ decimal t ∷ optional drill
+
 abbrev pub spelling : Command → List (List ℕ)
-spelling (Create name n t drill) = codes "create" ∷ name ∷ decimal n ∷ decimal t ∷ optional drill
+spelling (Create name n t drill) = codes "create" ∷ making_words name n t drill
+spelling (Refresh name drill) = codes "refresh" ∷ name ∷ optional drill
+spelling (Move name n t drill) = codes "move" ∷ making_words name n t drill
 spelling (Recover name) = codes "recover" ∷ name ∷ []
 spelling (Check name) = codes "check" ∷ name ∷ []
 spelling (Seal name doc target) = codes "seal" ∷ name ∷ doc ∷ target ∷ []
@@ -41,9 +49,15 @@ ends_like_a_key_file text = ends_with eqb text (codes ".now") || ends_with eqb t
 unfoldable pub is_file_name : List ℕ → Bool
 is_file_name text = nat_le 1 (length text) && nat_le (length text) 255 && is_plain_text text && not (ends_like_a_key_file text)
 
+-- each word of a command that makes a committee is in its range
+abbrev pub MakesInRange : List ℕ → ℕ → ℕ → Option (List ℕ) → Type 0
+MakesInRange name n t drill = IsTrue (is_key_name name) × IsTrue (is_size n) × IsTrue (is_bound n t) × IfSome drill (λ file. IsTrue (is_file_name file))
+
 -- each word is in its range
 abbrev pub IsInRange : Command → Type 0
-IsInRange (Create name n t drill) = IsTrue (is_key_name name) × IsTrue (is_size n) × IsTrue (is_bound n t) × IfSome drill (λ file. IsTrue (is_file_name file))
+IsInRange (Create name n t drill) = MakesInRange name n t drill
+IsInRange (Refresh name drill) = IsTrue (is_key_name name) × IfSome drill (λ file. IsTrue (is_file_name file))
+IsInRange (Move name n t drill) = MakesInRange name n t drill
 IsInRange (Recover name) = IsTrue (is_key_name name)
 IsInRange (Check name) = IsTrue (is_key_name name)
 IsInRange (Seal name doc target) = IsTrue (is_key_name name) × IsTrue (is_file_name doc) × IsTrue (is_file_name target)
@@ -57,3 +71,12 @@ pub record ReadsAs (words : List (List ℕ)) (command : Command) : Type 0 where
 -- no command is spelled so
 abbrev pub IsUsage : List (List ℕ) → Type 0
 IsUsage words = (command : Command) → ReadsAs words command → ⊥
+
+-- words behind the first are those of such a command
+pub record ReadsAsMaking (words : List (List ℕ)) (name : List ℕ) (n t : ℕ) (drill : Option (List ℕ)) : Type 0 where
+  pub words_are : words ≡ making_words name n t drill
+  pub in_range : MakesInRange name n t drill
+
+-- they are those of none
+abbrev pub MakesNothing : List (List ℕ) → Type 0
+MakesNothing words = (name : List ℕ) (n t : ℕ) (drill : Option (List ℕ)) → ReadsAsMaking words name n t drill → ⊥

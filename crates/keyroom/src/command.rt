@@ -1,7 +1,7 @@
 //! The words of a command.
 ghost use Rattle.std.specs.Prelude.{◌≡◌, ◌≢◌, ℕ, ◌↔◌, ◌∷◌, ◌==◌, not, eqb, IfSome, IfNone, IsTrue, codes, decimal};
 ghost use Rattle.std.specs.List.{list_all, starts_with};
-ghost use Rattle.keyroom.specs.Words.{texts, optional, ReadsAs, IsUsage, is_plain_text, ends_like_a_key_file, is_file_name};
+ghost use Rattle.keyroom.specs.Words.{texts, optional, ReadsAs, IsUsage, ReadsAsMaking, MakesNothing, is_plain_text, ends_like_a_key_file, is_file_name};
 ghost use Rattle.sizes.specs.Committees.{is_size, is_bound};
 ghost use Rattle.keyroom.specs.Commands.{command_of, text_of};
 
@@ -15,6 +15,19 @@ pub enum Command<'a> {
     /// `create NAME N T` and `create NAME N T DRILL`: makes a key of N members, of whom at most T may be faulty, and of
     /// whom some misbehave as the drill says, where one is named.
     Create {
+        name: KeyName,
+        committee: Committee,
+        drill: Option<&'a str>,
+    },
+    /// `refresh NAME` and `refresh NAME DRILL`: begins a new period of the key with new shares, in which some misbehave as
+    /// the drill says, where one is named.
+    Refresh {
+        name: KeyName,
+        drill: Option<&'a str>,
+    },
+    /// `move NAME N T` and `move NAME N T DRILL`: gives the key to another committee of N members, of whom at most T may be
+    /// faulty. Some of the old and the new members misbehave as the drill says, where one is named.
+    Move {
         name: KeyName,
         committee: Committee,
         drill: Option<&'a str>,
@@ -49,6 +62,8 @@ pub fn read_words(words: &[String]) -> Option<Command<'_>>
     let (first, rest) = words.split_first()?;
     match first.as_str() {
         "create" => create_words(rest),
+        "refresh" => refresh_words(rest),
+        "move" => move_words(rest),
         "recover" => recover_words(rest),
         "check" => check_words(rest),
         "seal" => seal_words(rest),
@@ -75,15 +90,24 @@ fn read_committee(members: &str, bound: &str) -> Option<Committee>
     }
 }
 
-fn create_words(rest: &[String]) -> Option<Command<'_>>
-    ensures found { IfSome result (λ command. ReadsAs (codes "create" ∷ texts rest.now) (command_of command)) }
-    ensures none { IfNone result (IsUsage (codes "create" ∷ texts rest.now)) }
+/// What a command that makes a committee is told: the key's name, the committee, and the drill, where one is named.
+#[derive(Clone, Copy, Debug)]
+struct Making<'a> {
+    name: KeyName,
+    committee: Committee,
+    drill: Option<&'a str>,
+}
+
+/// What the words behind the first tell a command that makes a committee.
+fn making_words(rest: &[String]) -> Option<Making<'_>>
+    ensures found { IfSome result (λ m. ReadsAsMaking (texts rest.now) m.name m.committee.members m.committee.bound (text_of m.drill)) }
+    ensures none { IfNone result (MakesNothing (texts rest.now)) }
 {
     match rest {
         [name, members, bound] => {
-            create_of(name.as_str(), members.as_str(), bound.as_str(), None)
+            making_of(name.as_str(), members.as_str(), bound.as_str(), None)
         }
-        [name, members, bound, drill] if is_file_name(drill.as_str()) => create_of(
+        [name, members, bound, drill] if is_file_name(drill.as_str()) => making_of(
             name.as_str(),
             members.as_str(),
             bound.as_str(),
@@ -93,24 +117,75 @@ fn create_words(rest: &[String]) -> Option<Command<'_>>
     }
 }
 
-/// The create of these words, of which the last may be left out.
-fn create_of<'a>(
+/// What these words tell, of which the last may be left out.
+fn making_of<'a>(
     name: &str,
     members: &str,
     bound: &str,
     drill: Option<&'a str>,
-) -> Option<Command<'a>>
+) -> Option<Making<'a>>
     requires { IfSome (text_of drill) (λ file. IsTrue (is_file_name file)) }
-    ensures found { IfSome result (λ command. ReadsAs (codes "create" ∷ name.now ∷ members.now ∷ bound.now ∷ optional (text_of drill.entry)) (command_of command)) }
-    ensures none { IfNone result (IsUsage (codes "create" ∷ name.now ∷ members.now ∷ bound.now ∷ optional (text_of drill.entry))) }
+    ensures found { IfSome result (λ m. ReadsAsMaking (name.now ∷ members.now ∷ bound.now ∷ optional (text_of drill.entry)) m.name m.committee.members m.committee.bound (text_of m.drill)) }
+    ensures none { IfNone result (MakesNothing (name.now ∷ members.now ∷ bound.now ∷ optional (text_of drill.entry))) }
 {
     let name = KeyName::from_text(name)?;
     let committee = read_committee(members, bound)?;
-    Some(Command::Create {
+    Some(Making {
         name,
         committee,
         drill,
     })
+}
+
+fn create_words(rest: &[String]) -> Option<Command<'_>>
+    ensures found { IfSome result (λ command. ReadsAs (codes "create" ∷ texts rest.now) (command_of command)) }
+    ensures none { IfNone result (IsUsage (codes "create" ∷ texts rest.now)) }
+{
+    let Some(making) = making_words(rest) else {
+        return None;
+    };
+    Some(Command::Create {
+        name: making.name,
+        committee: making.committee,
+        drill: making.drill,
+    })
+}
+
+fn move_words(rest: &[String]) -> Option<Command<'_>>
+    ensures found { IfSome result (λ command. ReadsAs (codes "move" ∷ texts rest.now) (command_of command)) }
+    ensures none { IfNone result (IsUsage (codes "move" ∷ texts rest.now)) }
+{
+    let Some(making) = making_words(rest) else {
+        return None;
+    };
+    Some(Command::Move {
+        name: making.name,
+        committee: making.committee,
+        drill: making.drill,
+    })
+}
+
+fn refresh_words(rest: &[String]) -> Option<Command<'_>>
+    ensures found { IfSome result (λ command. ReadsAs (codes "refresh" ∷ texts rest.now) (command_of command)) }
+    ensures none { IfNone result (IsUsage (codes "refresh" ∷ texts rest.now)) }
+{
+    match rest {
+        [name] => refresh_of(name.as_str(), None),
+        [name, drill] if is_file_name(drill.as_str()) => {
+            refresh_of(name.as_str(), Some(drill.as_str()))
+        }
+        _ => None,
+    }
+}
+
+/// The refresh of these words, of which the last may be left out.
+fn refresh_of<'a>(name: &str, drill: Option<&'a str>) -> Option<Command<'a>>
+    requires { IfSome (text_of drill) (λ file. IsTrue (is_file_name file)) }
+    ensures found { IfSome result (λ command. ReadsAs (codes "refresh" ∷ name.now ∷ optional (text_of drill.entry)) (command_of command)) }
+    ensures none { IfNone result (IsUsage (codes "refresh" ∷ name.now ∷ optional (text_of drill.entry))) }
+{
+    let name = KeyName::from_text(name)?;
+    Some(Command::Refresh { name, drill })
 }
 
 fn recover_words(rest: &[String]) -> Option<Command<'_>>

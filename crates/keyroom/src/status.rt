@@ -1,10 +1,11 @@
 //! What a call of the program comes to.
-ghost use Rattle.std.specs.Prelude.{◌≡◌, ◌≢◌, ◌++◌, IfOk, string_bytes, codes};
+ghost use Rattle.std.specs.Prelude.{◌≡◌, ◌≢◌, ◌++◌, OnOk, IfOk, string_bytes, codes, decimal};
 ghost use Rattle.keyroom.specs.Causes.{cause_of, IsOfShelf};
-ghost use Rattle.keyroom.specs.StatusLines.{code_of, what_text, drill_text, status_line};
+ghost use Rattle.keyroom.specs.StatusLines.{code_of, what_text, drill_text, values_text, status_line};
 
 use docvault::BoxFault;
 use drillbook::DrillFault;
+use field61::FeList;
 use lists::OutOfMemory;
 use sharefile::FileFault;
 use shelf::OutsideFault;
@@ -35,8 +36,13 @@ pub enum Status {
     NoSuch { what: What },
     /// What would be made is held already.
     Exists,
+    /// So few members have a valid share file and aren't drilled. A refresh and a move need N - T, which is `needed`.
+    TooFewSound { sound: u32, needed: u32 },
     /// The files have no nearest polynomial in this lane, the least such lane.
     NoKey { lane: u32 },
+    /// The old shares that a move was dealt have too many errors in this lane, the least such lane: what was opened there
+    /// is the syndrome of no vector with at most T entries other than 0.
+    NoWord { lane: u32, syndrome: FeList },
     /// The bytes are no box of this key, the first fault that holds of them.
     BadBox { fault: BoxFault },
     /// The number that would be raised is the last one, 4294967295.
@@ -116,6 +122,25 @@ fn drill_line(alloc: Global, fault: DrillFault) -> Result<String, OutOfMemory>
     }
 }
 
+/// Appends the values, each behind a space.
+fn put_values(text: &mut String, values: &FeList) -> Result<(), OutOfMemory>
+    ensures { OnOk result (string_bytes text.new ≡ string_bytes text.old ++ values_text values.now) }
+{
+    for k in 0..values.len() {
+        let value = values.at(k).get();
+        write!(text, " {value}")?;
+    }
+    Ok(())
+}
+
+fn no_word_line(alloc: Global, lane: u32, syndrome: &FeList) -> Result<String, OutOfMemory>
+    ensures { IfOk result (λ s. string_bytes s ≡ codes "refused 6 lane " ++ (decimal lane ++ (codes " syndrome" ++ values_text syndrome.now))) }
+{
+    let mut line = format!(in alloc; "refused 6 lane {lane} syndrome")?;
+    put_values(&mut line, syndrome)?;
+    Ok(line)
+}
+
 impl Status {
     /// The number that the process ends with: 0 for `Done` alone.
     pub fn code(&self) -> u8
@@ -126,7 +151,9 @@ impl Status {
             Status::Usage => 2,
             Status::NoSuch { .. } => 3,
             Status::Exists => 4,
+            Status::TooFewSound { .. } => 5,
             Status::NoKey { .. } => 6,
+            Status::NoWord { .. } => 6,
             Status::BadBox { .. } => 7,
             Status::Full { .. } => 8,
             Status::BadDrill { .. } => 9,
@@ -148,7 +175,11 @@ impl Status {
             Status::Usage => Ok(format!(in alloc; "refused 2 usage")?),
             Status::NoSuch { what } => no_such_line(alloc, *what),
             Status::Exists => Ok(format!(in alloc; "refused 4 exists")?),
+            Status::TooFewSound { sound, needed } => {
+                Ok(format!(in alloc; "refused 5 sound {sound} needed {needed}")?)
+            }
             Status::NoKey { lane } => Ok(format!(in alloc; "refused 6 lane {lane}")?),
+            Status::NoWord { lane, syndrome } => no_word_line(alloc, *lane, syndrome),
             Status::BadBox { fault } => {
                 let number = fault.number();
                 Ok(format!(in alloc; "refused 7 box {number}")?)

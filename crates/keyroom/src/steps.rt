@@ -16,7 +16,7 @@ use std::alloc::Global;
 
 /// What stands under the name of a member's share file.
 #[derive(Clone, Copy, Debug)]
-pub(crate) enum Found {
+pub enum Found {
     /// The name isn't held.
     Absent,
     /// Bytes that are no valid share file of the member: no share file, or one of another name, member, period or
@@ -38,12 +38,9 @@ pub fn get<H: Shelf>(alloc: Global, name: &str, shelf: &mut H) -> Result<Option<
     }
 }
 
-/// The now file of a key. It refuses where the name isn't held, or its bytes are no now file of this key.
-pub(crate) fn now_of<H: Shelf>(
-    alloc: Global,
-    name: &KeyName,
-    shelf: &mut H,
-) -> Result<NowFile, Status>
+/// The now file of a key. It refuses with `NoSuch` where the name isn't held, and with `BadNow` where its bytes are no now
+/// file of this key.
+pub fn now_of<H: Shelf>(alloc: Global, name: &KeyName, shelf: &mut H) -> Result<NowFile, Status>
     ensures reads { OnlyReads H.held H.fault_count H.calm shelf.old shelf.new }
     ensures gives { IfSome (H.held shelf.old) (λ m. AnswersStep (λ f. f) result (now_of name.now m)) }
     ensures cause { IfErr result (IsFromPlan (H.fault_count shelf.old) (H.fault_count shelf.new)) }
@@ -141,12 +138,9 @@ fn share_of<H: Shelf>(
     }
 }
 
-/// What stands under the name of each member's share file, by member.
-pub(crate) fn files_of<H: Shelf>(
-    alloc: Global,
-    now: &NowFile,
-    shelf: &mut H,
-) -> Result<Vec<Found>, Status>
+/// What stands under the name of each member's share file in the period of the now file, by member. All of them are asked
+/// for. It refuses only where the shelf failed, and its count of faults rose, or memory ran out.
+pub fn files_of<H: Shelf>(alloc: Global, now: &NowFile, shelf: &mut H) -> Result<Vec<Found>, Status>
     ensures reads { OnlyReads H.held H.fault_count H.calm shelf.old shelf.new }
     ensures count { IfOk result (λ files. length files.items ≡ now.now.n) }
     ensures found { IfOk result (λ files. IfSome (H.held shelf.old) (λ m. files.items ≡ files_of now.now m)) }

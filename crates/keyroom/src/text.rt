@@ -1,8 +1,7 @@
 //! What is printed, and the names of files.
 ghost use Rattle.std.specs.Prelude.{◌≡◌, ◌++◌, OnOk, IfOk, string_bytes, codes, decimal};
-ghost use Rattle.std.specs.List.{flat_map};
 ghost use Rattle.keyroom.specs.Names.{now_name, share_name};
-ghost use Rattle.keyroom.specs.Texts.{member_lines, hex_text, recover_text, check_text, round_lines, shares_line, create_text, document_text};
+ghost use Rattle.keyroom.specs.Texts.{member_lines, hex_text, recover_text, check_text, round_lines, phase_lines, indexes_text, corrected_line, shares_line, period_text, create_text, refresh_text, move_text, document_text};
 
 use crate::check::Checked;
 use crate::recover::Recovered;
@@ -12,6 +11,7 @@ use docvault::fingerprint;
 use field61::NumberList;
 use lists::OutOfMemory;
 use sharefile::{KeyName, NowFile};
+use sizes::LANES;
 use std::alloc::Global;
 
 /// The name of a key's now file. The error is want of memory.
@@ -98,6 +98,34 @@ fn put_rounds(text: &mut String, masks: &NumberList) -> Result<(), OutOfMemory>
     Ok(())
 }
 
+/// Appends what a phase came to: a line for each round, and how many of how many instances were accepted.
+fn put_phase(
+    text: &mut String,
+    masks: &NumberList,
+    accepted: u32,
+    instances: u32,
+) -> Result<(), OutOfMemory>
+    ensures { OnOk result (string_bytes text.new ≡ string_bytes text.old ++ phase_lines masks.now accepted instances) }
+{
+    put_rounds(text, masks)?;
+    writeln!(text, "accepted {accepted} of {instances}")?;
+    Ok(())
+}
+
+/// Appends the line of the old members whose shares were corrected.
+fn put_corrected(text: &mut String, indexes: &NumberList) -> Result<(), OutOfMemory>
+    ensures { OnOk result (string_bytes text.new ≡ string_bytes text.old ++ corrected_line indexes.now) }
+{
+    if indexes.len() == 0 {
+        writeln!(text, "corrected none")?;
+        return Ok(());
+    }
+    write!(text, "corrected")?;
+    put_indexes(text, indexes)?;
+    writeln!(text)?;
+    Ok(())
+}
+
 /// Appends the line of the indexes that got a share file.
 fn put_shares(text: &mut String, indexes: &NumberList) -> Result<(), OutOfMemory>
     ensures { OnOk result (string_bytes text.new ≡ string_bytes text.old ++ shares_line indexes.now) }
@@ -110,13 +138,36 @@ fn put_shares(text: &mut String, indexes: &NumberList) -> Result<(), OutOfMemory
 
 /// Appends the indexes, each behind a space.
 fn put_indexes(text: &mut String, indexes: &NumberList) -> Result<(), OutOfMemory>
-    ensures { OnOk result (string_bytes text.new ≡ string_bytes text.old ++ flat_map (λ index. codes " " ++ decimal index) indexes.now) }
+    ensures { OnOk result (string_bytes text.new ≡ string_bytes text.old ++ indexes_text indexes.now) }
 {
     for k in 0..indexes.len() {
         let index = *indexes.at(k);
         write!(text, " {index}")?;
     }
     Ok(())
+}
+
+/// The text of a command that begins a period of one committee, by its word.
+fn period_text(
+    alloc: Global,
+    verb: &str,
+    now: &NowFile,
+    masks: &NumberList,
+    accepted: u32,
+    instances: u32,
+    indexes: &NumberList,
+) -> Result<String, OutOfMemory>
+    ensures { IfOk result (λ s. string_bytes s ≡ period_text verb.now now.now masks.now accepted instances indexes.now) }
+{
+    let name = &now.name;
+    let n = now.n;
+    let t = now.t;
+    let period = now.period;
+    let mut text = String::new(alloc);
+    writeln!(text, "{verb} {name} {n} {t} period {period}")?;
+    put_phase(&mut text, masks, accepted, instances)?;
+    put_shares(&mut text, indexes)?;
+    Ok(text)
 }
 
 /// The text of `create`: the masks of the rounds, how many of how many instances were accepted, and the members that
@@ -131,14 +182,45 @@ pub fn create_text(
 ) -> Result<String, OutOfMemory>
     ensures { IfOk result (λ s. string_bytes s ≡ create_text now.now masks.now accepted instances indexes.now) }
 {
-    let name = &now.name;
-    let n = now.n;
-    let t = now.t;
-    let period = now.period;
+    period_text(alloc, "create", now, masks, accepted, instances, indexes)
+}
+
+/// The text of `refresh`, by the now file of the new period, with the same parts. The error is want of memory.
+pub fn refresh_text(
+    alloc: Global,
+    now: &NowFile,
+    masks: &NumberList,
+    accepted: u32,
+    instances: u32,
+    indexes: &NumberList,
+) -> Result<String, OutOfMemory>
+    ensures { IfOk result (λ s. string_bytes s ≡ refresh_text now.now masks.now accepted instances indexes.now) }
+{
+    period_text(alloc, "refresh", now, masks, accepted, instances, indexes)
+}
+
+/// The text of `move`, by the old committee's now file and the new one's: the masks of the rounds, how many instances were
+/// accepted, the old members whose shares were corrected, and the new members that got a share file. The error is want of
+/// memory.
+pub fn move_text(
+    alloc: Global,
+    old: &NowFile,
+    new: &NowFile,
+    masks: &NumberList,
+    accepted: u32,
+    corrected: &NumberList,
+    indexes: &NumberList,
+) -> Result<String, OutOfMemory>
+    ensures { IfOk result (λ s. string_bytes s ≡ move_text old.now new.now masks.now accepted corrected.now indexes.now) }
+{
+    let name = &old.name;
+    let (n, t) = (old.n, old.t);
+    let (m, u) = (new.n, new.t);
+    let period = new.period;
     let mut text = String::new(alloc);
-    writeln!(text, "create {name} {n} {t} period {period}")?;
-    put_rounds(&mut text, masks)?;
-    writeln!(text, "accepted {accepted} of {instances}")?;
+    writeln!(text, "move {name} {n} {t} to {m} {u} period {period}")?;
+    put_phase(&mut text, masks, accepted, LANES * n)?;
+    put_corrected(&mut text, corrected)?;
     put_shares(&mut text, indexes)?;
     Ok(text)
 }

@@ -1,6 +1,6 @@
 use Rattle.std.proofs.Common.{◌≡◌, ◌∙◌, sym, arith, rules}
 use Rattle.std.specs.Prelude.{decimal}
-use Rattle.keyroom.proofs.Creates.{spells_none}
+use Rattle.keyroom.proofs.Makings.{spells_none}
 use Rattle.keyroom.proofs.command.read_committee.Goals as goal
 
 pub returns-else-can_be_made-clause-none : goal.returns-else-can_be_made-clause-none

@@ -1,7 +1,5 @@
 use Rattle.std.proofs.lemmas.Result.{err_from_is_err_and}
-use Rattle.std.proofs.Common.{Err, IfErr}
 use Rattle.keyroom.specs.Work.{work_of}
-use Rattle.keyroom.specs.Causes.{IsFromPlan}
 use Rattle.keyroom.specs.Document.{MeansWork}
 use Rattle.keyroom.proofs.Refusals.{from_shelf_all}
 use Rattle.keyroom.proofs.Working.{refused_told, finished_told, honest_works, keyed_works}

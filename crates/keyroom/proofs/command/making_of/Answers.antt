@@ -1,7 +1,7 @@
 use Rattle.keyroom.specs.Words.{optional}
 use Rattle.keyroom.specs.Commands.{text_of}
-use Rattle.keyroom.proofs.Creates.{no_committee, if_none}
-use Rattle.keyroom.proofs.command.create_of.Goals as goal
+use Rattle.keyroom.proofs.Makings.{no_committee, if_none}
+use Rattle.keyroom.proofs.command.making_of.Goals as goal
 
 pub returns-in_err-committee-clause-none : goal.returns-in_err-committee-clause-none
 returns-in_err-committee-clause-none c =

@@ -1,21 +1,25 @@
--- Words of a create whose committee is none.
-use Rattle.std.proofs.Common.{◌≡◌, ◌≢◌, ℕ, ◌^◌, ◌<◌, Bool, true, false, ◌&&◌, List, [], ◌∷◌, get_or, Option, Some, None, IfNone, refl, sym, ap, ◌∙◌, subst, arith}
-use Rattle.std.specs.Prelude.{codes, decimal}
+-- Words that tell a command which makes a committee nothing.
+use Rattle.std.proofs.Common.{◌≡◌, ◌≢◌, ℕ, ◌^◌, ◌<◌, true, false, ◌&&◌, List, [], ◌∷◌, length, get_or, Option, Some, None, IfNone, refl, sym, ap, ◌∙◌, arith}
+use Rattle.std.specs.Prelude.{decimal}
 use Rattle.std.proofs.lemmas.Fmt.{decimal_injective}
 use Rattle.sizes.specs.Committees.{is_size, is_bound}
-use Rattle.decimals.specs.Decimals.{number_of}
-use Rattle.keyroom.specs.Words.{Command, Create, IsInRange, spelling, IsUsage}
-use Rattle.keyroom.proofs.Spelling.{command_at, read_back, small_size, small_bound}
+use Rattle.keyroom.specs.Words.{is_file_name, MakesNothing}
+use Rattle.keyroom.proofs.Spelling.{small_size, small_bound}
 
 module _ (name members bound : List ℕ) (rest : List (List ℕ)) (none : (n t : ℕ) → is_size n ≡ true → is_bound n t ≡ true → members ≡ decimal n → bound ≢ decimal t) where
-  -- the words are no command's spelling
-  pub no_committee : IsUsage (codes "create" ∷ name ∷ members ∷ bound ∷ rest)
-  no_committee command reads =
-      let words : List (List ℕ) = codes "create" ∷ name ∷ members ∷ bound ∷ rest in
-      let back : command_at words ≡ command = read_back words command reads in
-      let range : IsInRange (command_at words) = subst IsInRange (sym back) reads.in_range in
-      let spelled : words ≡ spelling (command_at words) = reads.words_are ∙ ap spelling (sym back) in
-      none (number_of members) (number_of bound) range.1 range.2 (ap (λ (ws : List (List ℕ)). get_or ws 2 []) spelled) (ap (λ (ws : List (List ℕ)). get_or ws 3 []) spelled)
+  -- the words tell a command that makes a committee nothing
+  pub no_committee : MakesNothing (name ∷ members ∷ bound ∷ rest)
+  no_committee key n t drill reads =
+      none n t reads.in_range.1 reads.in_range.2 (ap (λ (ws : List (List ℕ)). get_or ws 1 []) reads.words_are) (ap (λ (ws : List (List ℕ)). get_or ws 2 []) reads.words_are)
+
+-- neither three words, nor four of which the last names a file
+pub no_making : (words : List (List ℕ)) → length words ≢ 3 → (length words ≡ 4 → is_file_name (get_or words 3 []) ≡ false) → MakesNothing words
+no_making words few last name n t None reads = few (ap length reads.words_are)
+no_making words few last name n t (Some file) reads =
+    let is : is_file_name file ≡ true = reads.in_range.3 in
+    let other : is_file_name (get_or words 3 []) ≡ false = last (ap length reads.words_are) in
+    let e : true ≡ false = sym is ∙ sym (ap (λ (ws : List (List ℕ)). is_file_name (get_or ws 3 [])) reads.words_are) ∙ other in
+    cc
 
 same_number : (word : List ℕ) (n k : ℕ) → n < 2 ^ 32 → k < 2 ^ 32 → word ≡ decimal n → word ≡ decimal k → n ≡ k
 same_number word n k small fits is other = decimal_injective n k (omega (arith, small)) (omega (arith, fits)) (sym is ∙ other)
