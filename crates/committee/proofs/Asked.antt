@@ -2,17 +2,19 @@
 use Rattle.std.proofs.Common.{◌≡◌, ◌≤◌, ℕ, List, [], ◌∷◌, length, Option, Some, None, Result, Ok, Err, refl, sym, ap, subst, arith}
 use Rattle.std.specs.Prelude.{IfSome, IfErr}
 use Rattle.shelf.specs.Held.{Held}
-use Rattle.drillbook.specs.declared.order.Order.{Order}
 use Rattle.talk.specs.Shape.{create_shape}
 use Rattle.keyroom.specs.declared.plan.Plan.{Plan}
 use Rattle.keyroom.specs.declared.status.Status.{Status}
 use Rattle.keyroom.specs.Causes.{Cause, Done, Refusal, Shelf, Entropy, Sink, Memory, cause_of, IsOfPlan, IsFromPlan}
-use Rattle.keyroom.specs.Words.{Create}
+use Rattle.keyroom.specs.Words.{Command, Create, Refresh, Move}
 use Rattle.keyroom.specs.Outcome.{Outcome, refused, ThenDo}
 use Rattle.committee.specs.Answer.{PlansWith}
-use Rattle.committee.specs.Causes.{before_text, IsFromCommand, IsOfEntropy, IsFromEntropy}
+use Rattle.committee.specs.Causes.{before_text, IsFromCommand, IsOfEntropy, IsFromEntropy, IsOfWork, IsFromWork, IsOfSeeds, IsFromSeeds}
 use Rattle.committee.specs.Create.{Creates, create_asked}
-use Rattle.committee.specs.Meaning.{Given, MeansSome, TakesSeeds, AreEnoughFor}
+use Rattle.committee.specs.Refresh.{Refreshes, refresh_asked}
+use Rattle.committee.specs.Move.{Moves, move_asked}
+use Rattle.committee.specs.Standing.{seeds_for}
+use Rattle.committee.specs.Meaning.{Given, of_phase, MeansCommand, MeansSome, TakesSeeds, most_seeds, AreEnoughFor}
 use Rattle.committee.proofs.Doing.{plans_weaker, stops_asking}
 
 -- ---- causes
@@ -56,92 +58,121 @@ from_plan shelf now entropy later (Err s) le lt h = record {
   read = h.read;
 }
 
-entropy_undone : (c : Cause) → IsOfEntropy c → c ≡ Done → ⊥
-entropy_undone Done by e = by
-entropy_undone Refusal by e = by
-entropy_undone Shelf by e = by
-entropy_undone Entropy by e = cc
-entropy_undone Sink by e = by
-entropy_undone Memory by e = cc
+seeds_undone : (c : Cause) → IsOfSeeds c → c ≡ Done → ⊥
+seeds_undone Done by e = by
+seeds_undone Refusal by e = cc
+seeds_undone Shelf by e = by
+seeds_undone Entropy by e = cc
+seeds_undone Sink by e = by
+seeds_undone Memory by e = cc
 
-entropy_no_refusal : (c : Cause) → IsOfEntropy c → c ≡ Refusal → ⊥
-entropy_no_refusal Done by e = by
-entropy_no_refusal Refusal by e = by
-entropy_no_refusal Shelf by e = by
-entropy_no_refusal Entropy by e = cc
-entropy_no_refusal Sink by e = by
-entropy_no_refusal Memory by e = cc
+seeds_no_shelf : (c : Cause) → IsOfSeeds c → c ≡ Shelf → ⊥
+seeds_no_shelf Done by e = by
+seeds_no_shelf Refusal by e = cc
+seeds_no_shelf Shelf by e = by
+seeds_no_shelf Entropy by e = cc
+seeds_no_shelf Sink by e = by
+seeds_no_shelf Memory by e = cc
 
-entropy_no_shelf : (c : Cause) → IsOfEntropy c → c ≡ Shelf → ⊥
-entropy_no_shelf Done by e = by
-entropy_no_shelf Refusal by e = by
-entropy_no_shelf Shelf by e = by
-entropy_no_shelf Entropy by e = cc
-entropy_no_shelf Sink by e = by
-entropy_no_shelf Memory by e = cc
+seeds_no_sink : (c : Cause) → IsOfSeeds c → c ≡ Sink → ⊥
+seeds_no_sink Done by e = by
+seeds_no_sink Refusal by e = cc
+seeds_no_sink Shelf by e = by
+seeds_no_sink Entropy by e = cc
+seeds_no_sink Sink by e = by
+seeds_no_sink Memory by e = cc
 
-entropy_no_sink : (c : Cause) → IsOfEntropy c → c ≡ Sink → ⊥
-entropy_no_sink Done by e = by
-entropy_no_sink Refusal by e = by
-entropy_no_sink Shelf by e = by
-entropy_no_sink Entropy by e = cc
-entropy_no_sink Sink by e = by
-entropy_no_sink Memory by e = cc
-
--- a step that took seeds refused
-pub from_entropy : {X : Type 0} (shelf now entropy later : ℕ) (r : Result X Status) → shelf ≤ now → entropy ≤ later → IfErr r (λ s. IsFromEntropy entropy later s) → IfErr r (λ s. IsFromCommand (before_text shelf entropy) (before_text now later) s)
-from_entropy shelf now entropy later (Ok x) le lt h = tt
-from_entropy shelf now entropy later (Err s) le lt h = record {
+-- a step that took seeds refused, or the work behind it
+pub from_seeds : {X : Type 0} (shelf now entropy later : ℕ) (r : Result X Status) → shelf ≤ now → entropy ≤ later → IfErr r (λ s. IsFromSeeds entropy later s) → IfErr r (λ s. IsFromCommand (before_text shelf entropy) (before_text now later) s)
+from_seeds shelf now entropy later (Ok x) le lt h = tt
+from_seeds shelf now entropy later (Err s) le lt h = record {
   counted = record {
     shelf_later = le;
     entropy_later = lt;
     sink_later = omega arith;
-    shelf = λ e. absurd (entropy_no_shelf (cause_of s) h.by e);
+    shelf = λ e. absurd (seeds_no_shelf (cause_of s) h.by e);
     entropy = h.entropy;
-    sink = λ e. absurd (entropy_no_sink (cause_of s) h.by e);
+    sink = λ e. absurd (seeds_no_sink (cause_of s) h.by e);
   };
-  undone = λ e. entropy_undone (cause_of s) h.by e;
-  read = λ e. entropy_no_refusal (cause_of s) h.by (ap cause_of e);
+  undone = λ e. seeds_undone (cause_of s) h.by e;
+  read = h.read;
 }
 
--- ---- a create
-module _ (name : List ℕ) (n t : ℕ) (drill : Option (List ℕ)) (held : Held) (coming : Option (List (List ℕ))) where
-  abbrev given : Given
-  given = record { held = held; coming = coming }
+-- a step that only takes seeds refuses nothing
+entropy_seeds : (c : Cause) → IsOfEntropy c → IsOfSeeds c × (c ≡ Refusal → ⊥)
+entropy_seeds Done by = absurd by
+entropy_seeds Refusal by = absurd by
+entropy_seeds Shelf by = absurd by
+entropy_seeds Entropy by = (tt, λ (e : Entropy ≡ Refusal). cc)
+entropy_seeds Sink by = absurd by
+entropy_seeds Memory by = (tt, λ (e : Memory ≡ Refusal). cc)
 
-  create_means : (orders : List Order) → create_asked name (create_shape n t) drill held ≡ Ok orders → (o : Outcome) → (masks : List ℕ) × Creates name n t coming masks orders o → MeansSome (Create name n t drill) given o
-  create_means orders asked o (masks, creates) = (masks ∷ [], subst (λ r. ThenDo r (Creates name n t coming masks) o) (sym asked) creates)
+pub seeds_of_entropy : {X : Type 0} (entropy later : ℕ) (r : Result X Status) → IfErr r (λ s. IsFromEntropy entropy later s) → IfErr r (λ s. IsFromSeeds entropy later s)
+seeds_of_entropy entropy later (Ok x) h = tt
+seeds_of_entropy entropy later (Err s) h =
+    let by = entropy_seeds (cause_of s) h.by in
+    record { entropy = h.entropy; by = by.0; read = λ e. by.1 (ap cause_of e) }
 
-  -- the drill was had, and the plan is that of what it creates
-  create_planned : (comes : Option (List (List ℕ))) (orders : List Order) (r : Result Plan Status) → create_asked name (create_shape n t) drill held ≡ Ok orders →
-      PlansWith (λ o. (masks : List ℕ) × Creates name n t coming masks orders o) (λ count. count ≡ n) coming comes r →
-      PlansWith (MeansSome (Create name n t drill) given) (TakesSeeds (Create name n t drill) held) coming comes r
-  create_planned comes orders r asked h =
-      plans_weaker (λ o. (masks : List ℕ) × Creates name n t coming masks orders o) (MeansSome (Create name n t drill) given) (λ count. count ≡ n) (TakesSeeds (Create name n t drill) held)
-      (create_means orders asked) (λ count e. (e, (orders, asked))) coming comes r h
+-- and work takes none
+work_seeds : (c : Cause) → IsOfWork c → IsOfSeeds c × (c ≡ Entropy → ⊥)
+work_seeds Done by = absurd by
+work_seeds Refusal by = (tt, λ (e : Refusal ≡ Entropy). cc)
+work_seeds Shelf by = absurd by
+work_seeds Entropy by = absurd by
+work_seeds Sink by = absurd by
+work_seeds Memory by = (tt, λ (e : Memory ≡ Entropy). cc)
 
-  -- it was not
-  create_refused : (before now : ℕ) (s : Status) → (cause_of s ≡ Refusal → create_asked name (create_shape n t) drill held ≡ Err s) → IsFromPlan before now s →
-      PlansWith (MeansSome (Create name n t drill) given) (TakesSeeds (Create name n t drill) held) coming coming (Err s)
-  create_refused before now s gives from =
-      stops_asking (MeansSome (Create name n t drill) given) (TakesSeeds (Create name n t drill) held) coming coming s (cause_of s) refl from.by refl
-      (λ is. ([], subst (λ r. ThenDo r (Creates name n t coming []) (refused s)) (sym (gives is)) refl))
+pub seeds_of_work : (entropy later : ℕ) (s : Status) → IsFromWork s → IsFromSeeds entropy later s
+seeds_of_work entropy later s h =
+    let by = work_seeds (cause_of s) h.by in
+    record { entropy = λ e. absurd (by.1 e); by = by.0; read = h.read }
 
--- the same over a shelf that may not tell
-pub planned_told : (name : List ℕ) (n t : ℕ) (drill : Option (List ℕ)) (held : Option Held) (coming comes : Option (List (List ℕ))) (orders : List Order) (r : Result Plan Status) →
-    IfSome held (λ m. create_asked name (create_shape n t) drill m ≡ Ok orders) → PlansWith (λ o. (masks : List ℕ) × Creates name n t coming masks orders o) (λ count. count ≡ n) coming comes r →
-    IfSome held (λ m. PlansWith (MeansSome (Create name n t drill) (record { held = m; coming = coming })) (TakesSeeds (Create name n t drill) m) coming comes r)
-planned_told name n t drill None coming comes orders r asked h = tt
-planned_told name n t drill (Some m) coming comes orders r asked h = create_planned name n t drill m coming comes orders r asked h
+pub from_entropy : {X : Type 0} (shelf now entropy later : ℕ) (r : Result X Status) → shelf ≤ now → entropy ≤ later → IfErr r (λ s. IsFromEntropy entropy later s) → IfErr r (λ s. IsFromCommand (before_text shelf entropy) (before_text now later) s)
+from_entropy shelf now entropy later r le lt h = from_seeds shelf now entropy later r le lt (seeds_of_entropy entropy later r h)
 
-pub refused_told : (name : List ℕ) (n t : ℕ) (drill : Option (List ℕ)) (held : Option Held) (coming : Option (List (List ℕ))) (before now : ℕ) (s : Status) →
-    IfSome held (λ m. cause_of s ≡ Refusal → create_asked name (create_shape n t) drill m ≡ Err s) → IsFromPlan before now s →
-    IfSome held (λ m. PlansWith (MeansSome (Create name n t drill) (record { held = m; coming = coming })) (TakesSeeds (Create name n t drill) m) coming coming (Err s))
-refused_told name n t drill None coming before now s gives from = tt
-refused_told name n t drill (Some m) coming before now s gives from = create_refused name n t drill m coming before now s gives from
+at_most : (coming : Option (List (List ℕ))) (few many : ℕ) → few ≤ many → IfSome coming (λ seeds. many ≤ length seeds) → IfSome coming (λ seeds. few ≤ length seeds)
+at_most None few many le h = tt
+at_most (Some seeds) few many le h = omega (arith, le, h)
 
--- where the drill was had, enough seeds for the command are enough for its members
-pub enough_here : (name : List ℕ) (n t : ℕ) (drill : Option (List ℕ)) (held : Option Held) (coming : Option (List (List ℕ))) (orders : List Order) →
-    IfSome held (λ m. create_asked name (create_shape n t) drill m ≡ Ok orders) → AreEnoughFor (Create name n t drill) held coming → IfSome coming (λ seeds. n ≤ length seeds)
-enough_here name n t drill None coming orders asked enough = enough
-enough_here name n t drill (Some m) coming orders asked enough = enough n (refl, (orders, asked))
+-- ---- a command with a phase
+-- The steps before the seeds ask the shelf alone; the rest of the meaning is told of what they give, and takes so many seeds.
+pub record Phased {A : Type 0} (command : Command) (asked : Held → Result A Status) (next : Option (List (List ℕ)) → List ℕ → A → Outcome → Type 0) (count : A → ℕ) : Type 0 where
+  pub means : (given : Given) (masks : List (List ℕ)) (o : Outcome) → ThenDo (asked given.held) (next given.coming (of_phase masks 0)) o → MeansCommand command given masks o
+  pub takes : (held : Held) (a : A) → asked held ≡ Ok a → TakesSeeds command held (count a)
+
+module _ {A : Type 0} (command : Command) (asked : Held → Result A Status) (next : Option (List (List ℕ)) → List ℕ → A → Outcome → Type 0) (count : A → ℕ) (phased : Phased command asked next count) where
+  phase_means : (held : Held) (coming : Option (List (List ℕ))) (a : A) → asked held ≡ Ok a → (o : Outcome) → (masks : List ℕ) × next coming masks a o → MeansSome command (record { held = held; coming = coming }) o
+  phase_means held coming a is o (masks, n) = (masks ∷ [], phased.means (record { held = held; coming = coming }) (masks ∷ []) o (subst (λ r. ThenDo r (next coming masks) o) (sym is) n))
+
+  -- the steps gave a value, and the plan is that of what is told of it
+  pub planned_told : (held : Option Held) (coming comes : Option (List (List ℕ))) (a : A) (r : Result Plan Status) →
+      IfSome held (λ m. asked m ≡ Ok a) → PlansWith (λ o. (masks : List ℕ) × next coming masks a o) (λ k. k ≡ count a) coming comes r →
+      IfSome held (λ m. PlansWith (MeansSome command (record { held = m; coming = coming })) (TakesSeeds command m) coming comes r)
+  planned_told None coming comes a r is h = tt
+  planned_told (Some m) coming comes a r is h =
+      plans_weaker (λ o. (masks : List ℕ) × next coming masks a o) (MeansSome command (record { held = m; coming = coming })) (λ k. k ≡ count a) (TakesSeeds command m)
+      (phase_means m coming a is) (λ k e. subst (TakesSeeds command m) (sym e) (phased.takes m a is)) coming comes r h
+
+  -- they refused
+  pub refused_told : (held : Option Held) (coming : Option (List (List ℕ))) (before now : ℕ) (s : Status) →
+      IfSome held (λ m. cause_of s ≡ Refusal → asked m ≡ Err s) → IsFromPlan before now s →
+      IfSome held (λ m. PlansWith (MeansSome command (record { held = m; coming = coming })) (TakesSeeds command m) coming coming (Err s))
+  refused_told None coming before now s gives from = tt
+  refused_told (Some m) coming before now s gives from =
+      stops_asking (MeansSome command (record { held = m; coming = coming })) (TakesSeeds command m) coming coming s (cause_of s) refl from.by refl
+      (λ is. ([], phased.means (record { held = m; coming = coming }) [] (refused s) (subst (λ r. ThenDo r (next coming []) (refused s)) (sym (gives is)) refl)))
+
+  -- where they gave a value, enough seeds for the command are enough for what it takes
+  pub enough_here : (held : Option Held) (coming : Option (List (List ℕ))) (a : A) → count a ≤ most_seeds command →
+      IfSome held (λ m. asked m ≡ Ok a) → AreEnoughFor command held coming → IfSome coming (λ seeds. count a ≤ length seeds)
+  enough_here None coming a most is enough = at_most coming (count a) (most_seeds command) most enough
+  enough_here (Some m) coming a most is enough = enough (count a) (phased.takes m a is)
+
+pub create_phased : (name : List ℕ) (n t : ℕ) (drill : Option (List ℕ)) → Phased (Create name n t drill) (create_asked name (create_shape n t) drill) (Creates name n t) (λ orders. n)
+create_phased name n t drill = record { means = λ given masks o h. h; takes = λ held orders e. (refl, (orders, e)) }
+
+pub refresh_phased : (name : List ℕ) (drill : Option (List ℕ)) → Phased (Refresh name drill) (refresh_asked name drill) Refreshes seeds_for
+refresh_phased name drill = record { means = λ given masks o h. h; takes = λ held st e. (st, e, refl) }
+
+pub move_phased : (name : List ℕ) (m u : ℕ) (drill : Option (List ℕ)) → Phased (Move name m u drill) (move_asked name m u drill) (Moves m u) seeds_for
+move_phased name m u drill = record { means = λ given masks o h. h; takes = λ held st e. (st, e, refl) }

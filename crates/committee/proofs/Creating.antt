@@ -1,22 +1,15 @@
 -- What a create means puts share files on one polynomial in each lane.
-use Rattle.std.proofs.Common.{◌≡◌, inl, inr, ℕ, zero, suc, ◌≤◌, Bool, true, false, cond, List, [], take, Option, Some, None, Result, Ok, Err, refl, sym, ap, ◌∙◌, subst, arith, leb}
+use Rattle.std.proofs.Common.{◌≡◌, inl, inr, ℕ, ◌≤◌, List, take, Option, Some, None, Result, Ok, Err, refl, sym, ap, ◌∙◌, subst, arith}
 use Rattle.std.specs.FinMap.{get}
 use Rattle.std.specs.Prelude.{IfSome}
-use Rattle.std.proofs.lemmas.Bool.{leb-true}
-use Rattle.std.proofs.lemmas.Bool.Decides.{nat_tests}
-use Rattle.shelf.specs.Held.{Held, Change, after}
-use Rattle.sharefile.specs.Names.{is_key_name}
+use Rattle.shelf.specs.Held.{Held, after}
 use Rattle.sharefile.specs.declared.link.Link.{Link}
-use Rattle.sharefile.proofs.NowLaws.{length-committee_digest}
-use Rattle.sharefile.specs.Files.{Now}
-use Rattle.sizes.specs.Committees.{is_size, is_bound, IsCommittee}
+use Rattle.sharefile.specs.Files.{Now, IsNow}
+use Rattle.sizes.specs.Committees.{IsCommittee}
 use Rattle.talk.specs.Shape.{Shape}
-use Rattle.plays.specs.Play.{Play}
 use Rattle.drillbook.specs.declared.order.Order.{Order}
-use Rattle.drillbook.specs.declared.fault.DrillFault.{DrillFault}
 use Rattle.drillbook.specs.Orders.{names}
-use Rattle.drillbook.specs.Text.{drill_at, lines_at, split, counted, named_among}
-use Rattle.drillbook.proofs.Lawful.{both_ok}
+use Rattle.drillbook.specs.Text.{named_among}
 use Rattle.talk.specs.Shape.{create_shape}
 use Rattle.keyroom.specs.declared.status.Status.{Status}
 use Rattle.keyroom.specs.declared.status.Status.TheVariants.{Done}
@@ -26,81 +19,35 @@ use Rattle.keyroom.specs.Names.{now_name}
 use Rattle.keyroom.specs.Outcome.{Outcome, ThenDo}
 use Rattle.keyroom.specs.Steps.{free_step, free_of, ◌and_then◌}
 use Rattle.keyroom.proofs.Working.{and_then_ok}
-use Rattle.committee.specs.Links.{first_link, holders_of, no_digest}
-use Rattle.committee.specs.Create.{Creates, MeansCreate, create_asked, create_changes, first_now, drill_read, drill_step, drill_of, play_created}
+use Rattle.committee.specs.Links.{first_link, first_now}
+use Rattle.committee.specs.Drill.{drill_of}
+use Rattle.committee.specs.Create.{Creates, MeansCreate, create_asked, create_changes, play_created}
 use Rattle.committee.specs.Answer.{Does}
 use Rattle.committee.specs.Meaning.{Given, Means, AskForSeeds}
 use Rattle.committee.specs.Agreement.{PutsOnOneLine, HeldOnOneLine, NewOnOneLine, CreatesOnOneLine, MadeAll}
-use Rattle.committee.proofs.Phases.{proper_create, honest_in}
-use Rattle.committee.proofs.Agreement.{IsTied, puts_on_one_line, all_on_one_line, part_on_one_line, same_on_one_line}
+use Rattle.committee.proofs.Committees.{committee_of}
+use Rattle.committee.proofs.Drills.{FromSteps, few_drill, drill_refuses}
+use Rattle.committee.proofs.Created.{proper_create, create_honest, few_named}
+use Rattle.committee.proofs.Links.{first_is_now}
+use Rattle.committee.proofs.Agreement.{puts_on_one_line, all_on_one_line, part_on_one_line, same_on_one_line}
 use Rattle.committee.proofs.OneMeaning.{meant_of}
 use Rattle.committee.proofs.Doing.{MadeSome, made_all, made_some}
 
 -- ---- few are named
-few_cases : (b : Bool) (a orders : List Order) (e : DrillFault) → cond b (Ok a) (Err e) ≡ Ok orders → (b ≡ true) × (a ≡ orders)
-few_cases true a orders e h = (refl, cc)
-few_cases false a orders e h = absurd (cc)
-
-few_counted : (n t : ℕ) (a orders : List Order) → counted (create_shape n t) a ≡ Ok orders → named_among orders 0 n ≤ t
-few_counted n t a orders h =
-    let r = few_cases (leb (named_among a 0 n) t) a orders _ h in
-    leb-true (named_among orders 0 n) t (ap (λ (x : List Order). leb (named_among x 0 n) t) (sym r.1) ∙ r.0)
-
-few_read : (n t : ℕ) (text : List ℕ) (orders : List Order) → drill_at (create_shape n t) text ≡ Ok orders → named_among orders 0 n ≤ t
-unfolding drill_at
-few_read n t text orders h =
-    let r = both_ok (lines_at (create_shape n t) 1 [] (split 10 text)) (counted (create_shape n t)) orders h in
-    few_counted n t r.0 orders r.2
-
-pub none_named : (n shift : ℕ) → named_among [] shift n ≡ 0
-none_named zero shift = refl
-none_named (suc n) shift = omega (arith, none_named n shift)
-
-few_text : (n t : ℕ) (text : List ℕ) (r : Result (List Order) DrillFault) (orders : List Order) → drill_at (create_shape n t) text ≡ r → drill_read r ≡ Ok orders → named_among orders 0 n ≤ t
-few_text n t text (Ok read) orders e h = let same : read ≡ orders = cc in few_read n t text orders (e ∙ ap Ok same)
-few_text n t text (Err fault) orders e h = absurd cc
-
-few_step : (n t : ℕ) (text : Option (List ℕ)) (orders : List Order) → drill_step (create_shape n t) text ≡ Ok orders → named_among orders 0 n ≤ t
-few_step n t None orders e = absurd cc
-few_step n t (Some text) orders e = few_text n t text (drill_at (create_shape n t) text) orders refl e
-
-few_drill : (n t : ℕ) (drill : Option (List ℕ)) (held : Held) (orders : List Order) → drill_of (create_shape n t) drill held ≡ Ok orders → named_among orders 0 n ≤ t
-few_drill n t None held orders e = let same : [] ≡ orders = cc in subst (λ (os : List Order). named_among os 0 n ≤ t) same (omega (arith, none_named n 0))
-few_drill n t (Some file) held orders e = few_step n t (get held file) orders e
-
 few_asked : (name : List ℕ) (n t : ℕ) (drill : Option (List ℕ)) (held : Held) (orders : List Order) → create_asked name (create_shape n t) drill held ≡ Ok orders → named_among orders 0 n ≤ t
 few_asked name n t drill held orders e =
     let a = and_then_ok (free_of (now_name name) held) (λ free. drill_of (create_shape n t) drill held) orders e in
-    few_drill n t drill held orders a.2
-
--- ---- the link of a create
-pub first_tied : (name : List ℕ) (n t : ℕ) (down : ℕ → Bool) → IsTied (first_now name n t (first_link name n t down))
-first_tied name n t down = length-committee_digest name n t 1 (holders_of down n) no_digest
+    few_drill (create_shape n t) drill held orders a.2
 
 -- ---- a refusal isn't Done
-never_read : (r : Result (List Order) DrillFault) (status : Status) → drill_read r ≡ Err status → status ≡ Done → ⊥
-never_read (Ok orders) status e done = cc
-never_read (Err fault) status e done = cc
-
-never_step : (s : Shape) (text : Option (List ℕ)) (status : Status) → drill_step s text ≡ Err status → status ≡ Done → ⊥
-never_step s None status e done = cc
-never_step s (Some text) status e done = never_read (drill_at s text) status e done
-
-never_drill : (s : Shape) (drill : Option (List ℕ)) (held : Held) (status : Status) → drill_of s drill held ≡ Err status → status ≡ Done → ⊥
-never_drill s None held status e done = cc
-never_drill s (Some file) held status e done = never_step s (get held file) status e done
-
 never_free : (o : Option (List ℕ)) (drill : Result (List Order) Status) (status : Status) → (drill ≡ Err status → status ≡ Done → ⊥) → (free_step o and_then λ free. drill) ≡ Err status → status ≡ Done → ⊥
 never_free None drill status h e done = h e done
 never_free (Some bytes) drill status h e done = cc
 
 never_asked : (name : List ℕ) (s : Shape) (drill : Option (List ℕ)) (held : Held) (status : Status) → create_asked name s drill held ≡ Err status → status ≡ Done → ⊥
-never_asked name s drill held status e done = never_free (get held (now_name name)) (drill_of s drill held) status (never_drill s drill held status) e done
+never_asked name s drill held status e done = never_free (get held (now_name name)) (drill_of s drill held) status (λ f d. subst FromSteps d (drill_refuses s drill held status f)) e done
 
 -- ---- the steps
-pub committee : (n t : ℕ) → is_size n ≡ true → is_bound n t ≡ true → IsCommittee n t
-committee n t size bound = record { some_bad = grind (arith, nat_tests); third = grind (arith, nat_tests); most = grind (arith, nat_tests) }
-
 -- a create that is done: the drill, and what it creates
 pub record WasCreated (name : List ℕ) (n t : ℕ) (drill : Option (List ℕ)) (held : Held) (coming : Option (List (List ℕ))) (masks : List ℕ) (outcome : Outcome) : Type 0 where
   pub orders : List Order
@@ -117,21 +64,31 @@ pub was_created : (name : List ℕ) (n t : ℕ) (drill : Option (List ℕ)) (hel
 was_created name n t drill held coming masks outcome means done = asked_cases name n t drill held coming masks outcome (create_asked name (create_shape n t) drill held) refl done means
 
 module _ (name : List ℕ) (n t : ℕ) (drill : Option (List ℕ)) (held : Held) (coming : Option (List (List ℕ))) (masks : List ℕ) (outcome : Outcome) (range : IsInRange (Create name n t drill)) (was : WasCreated name n t drill held coming masks outcome) where
+  -- what it creates, and the now file of it
+  few : named_among was.orders 0 n ≤ t
+  few = few_asked name n t drill held was.orders was.asked
+
+  abbrev made : Now
+  made = first_now name n t (first_link name n t (names was.orders))
+
+  pub made_is_now : IsNow (first_now name n t (first_link name n t (names was.orders)))
+  made_is_now = first_is_now name n t (names was.orders) range.0 range.1 range.2 (omega (arith, few, few_named was.orders n))
+
   created_puts : (link : Option Link) → PutsOnOneLine (first_now name n t link) outcome.changes
   created_puts link =
       let c = was.creates in
-      let whole : IsCommittee n t = committee n t range.1 range.2 in
+      let whole : IsCommittee n t = committee_of n t range.1 range.2 in
       subst (λ (o : Outcome). PutsOnOneLine (first_now name n t link) o.changes) (sym c.4)
-      (puts_on_one_line (first_now name n t (first_link name n t (names was.orders))) (play_created n t was.orders c.0 masks) range.0 range.1 range.2 refl (first_tied name n t (names was.orders)) link
-      (proper_create n t whole was.orders c.0 c.1 masks c.3 (few_asked name n t drill held was.orders was.asked)) refl
-      (λ j from to up. honest_in n t was.orders c.0 masks j from to up))
+      (puts_on_one_line made (play_created n t was.orders c.0 masks) made_is_now link
+      (proper_create n t whole was.orders c.0 c.1 masks c.3 few) refl
+      (create_honest n t whole was.orders c.0 c.1 masks c.3))
 
   created_held : (link : Option Link) → HeldOnOneLine (first_now name n t link) (after outcome.changes held)
   created_held link =
       let c = was.creates in
-      let changes : outcome.changes ≡ create_changes (first_now name n t (first_link name n t (names was.orders))) (play_created n t was.orders c.0 masks) = ap (λ (o : Outcome). o.changes) c.4 in
+      let changes : outcome.changes ≡ create_changes made (play_created n t was.orders c.0 masks) = ap (λ (o : Outcome). o.changes) c.4 in
       subst (λ cs. HeldOnOneLine (first_now name n t link) (after cs held)) (sym changes)
-      (all_on_one_line (first_now name n t (first_link name n t (names was.orders))) (play_created n t was.orders c.0 masks) range.0 range.1 range.2 refl (first_tied name n t (names was.orders)) link held (subst (PutsOnOneLine (first_now name n t link)) changes (created_puts link)))
+      (all_on_one_line made (play_created n t was.orders c.0 masks) made_is_now link held (subst (PutsOnOneLine (first_now name n t link)) changes (created_puts link)))
 
 pub creates_on_one_line : CreatesOnOneLine
 creates_on_one_line name n t drill held coming masks outcome range means done = created_puts name n t drill held coming masks outcome range (was_created name n t drill held coming masks outcome means done)

@@ -1,5 +1,5 @@
 -- A plan that was carried out is what the words mean.
-use Rattle.std.proofs.Common.{◌≡◌, ◌≤◌, ◌⊎◌, ℕ, List, [], length, take, Option, Some, None, Result, Ok, Err, refl, sym, ap, ◌∙◌, subst, inl, inr, arith, append-nil}
+use Rattle.std.proofs.Common.{◌≡◌, ◌⊎◌, ℕ, List, [], length, take, Option, Some, None, Result, Ok, Err, refl, sym, ap, ◌∙◌, subst, inl, inr, arith, append-nil}
 use Rattle.std.specs.Prelude.{IfSome, IfErr}
 use Rattle.std.specs.Option.{option_map}
 use Rattle.std.proofs.lemmas.List.{take_all}
@@ -13,7 +13,7 @@ use Rattle.keyroom.specs.Outcome.{Outcome, refused}
 use Rattle.keyroom.specs.Changes.{outcome_of}
 use Rattle.keyroom.specs.Answer.{IsChanged, IsTold, Carries, Plans}
 use Rattle.keyroom.specs.Words.{Command, ReadsAs, IsUsage}
-use Rattle.committee.specs.Answer.{World, Took, TookAsked, StopsBefore, PlansWith, CarriedOut, DoesBy, Does, IsWhole, Completes, Writes}
+use Rattle.committee.specs.Answer.{refused_after, World, Took, TookAsked, StopsBefore, PlansWith, CarriedOut, IsUntouched, DoesBy, Does, IsWhole, Completes, Writes}
 use Rattle.committee.specs.Meaning.{Given, MeansSome, Means, TakesSeeds, AskForSeeds}
 use Rattle.committee.specs.Agreement.{MadeAll}
 
@@ -48,7 +48,7 @@ module _ (means on : Outcome → Type 0) (asks may : ℕ → Type 0) (weaker : (
 
   does_by_weaker : (before after : World) (status : Status) (cause : Cause) → DoesBy means asks before after status cause → DoesBy on may before after status cause
   does_by_weaker before after status Done d = carried_of before after Done d
-  does_by_weaker before after status Refusal d = (weaker (refused status) d.0, d.1)
+  does_by_weaker before after status Refusal d = (d.0, weaker (refused_after d.0 status) d.1, d.2, d.3)
   does_by_weaker before after status Shelf (inl same) = inl same
   does_by_weaker before after status Shelf (inr d) = inr (carried_of before after Shelf d)
   does_by_weaker before after status Entropy d = (d.0, asked_weaker asks may ask before.coming after.coming d.1)
@@ -62,7 +62,7 @@ module _ (means on : Outcome → Type 0) (asks may : ℕ → Type 0) (weaker : (
 
   stops_weaker : (coming comes : Option (List (List ℕ))) (status : Status) (cause : Cause) → StopsBefore means asks coming comes status cause → StopsBefore on may coming comes status cause
   stops_weaker coming comes status Done h = absurd h
-  stops_weaker coming comes status Refusal h = (weaker (refused status) h.0, h.1)
+  stops_weaker coming comes status Refusal h = (h.0, weaker (refused_after h.0 status) h.1, h.2)
   stops_weaker coming comes status Shelf h = h
   stops_weaker coming comes status Entropy h = asked_weaker asks may ask coming comes h
   stops_weaker coming comes status Sink h = absurd h
@@ -82,7 +82,7 @@ took_none (Some seeds) = record { there = omega arith; gone = refl }
 pub stops_asking : (means : Outcome → Type 0) (asks : ℕ → Type 0) (coming comes : Option (List (List ℕ))) (status : Status) (cause : Cause) → cause_of status ≡ cause → IsOfPlan cause → comes ≡ coming →
     (cause_of status ≡ Refusal → means (refused status)) → StopsBefore means asks coming comes status cause
 stops_asking means asks coming comes status Done e by same h = absurd by
-stops_asking means asks coming comes status Refusal e by same h = (h e, same)
+stops_asking means asks coming comes status Refusal e by same h = (0, h e, subst (Took 0 coming) (sym same) (took_none coming))
 stops_asking means asks coming comes status Shelf e by same h = same
 stops_asking means asks coming comes status Entropy e by same h = absurd by
 stops_asking means asks coming comes status Sink e by same h = absurd by
@@ -129,7 +129,7 @@ whole_made old new changes e = e ∙ ap (λ cs. option_map (after cs) old) (sym 
 
 made_some_by : (means : Outcome → Type 0) (asks : ℕ → Type 0) (before now : World) (status : Status) (cause : Cause) → DoesBy means asks before now status cause → (now.held ≡ before.held) ⊎ MadeSome means before.held now.held
 made_some_by means asks before now status Done (o, c) = inr (record { outcome = o; meant = c.meant; planned = c.planned; count = length o.changes; is = whole_made before.held now.held o.changes c.carried.0 })
-made_some_by means asks before now status Refusal d = inl (ap (λ (w : World). w.held) d.1)
+made_some_by means asks before now status Refusal d = inl d.2.held
 made_some_by means asks before now status Shelf (inl same) = inl (ap (λ (w : World). w.held) same)
 made_some_by means asks before now status Shelf (inr (o, c)) = inr (record { outcome = o; meant = c.meant; planned = c.planned; count = c.carried.0.0; is = c.carried.0.2 })
 made_some_by means asks before now status Entropy d = inl d.0.held
@@ -152,7 +152,7 @@ module _ (words : List (List ℕ)) (given : Given) (command : Command) (reads : 
   refused_by : (status : Status) (cause : Cause) → StopsBefore (MeansSome command given) (TakesSeeds command given.held) given.coming comes status cause →
       DoesBy (Means words given) (AskForSeeds words given.held) (record { held = old; coming = given.coming; told = told }) (record { held = new; coming = comes; told = told }) status cause
   refused_by status Done h = absurd h
-  refused_by status Refusal h = (read_under words given command (refused status) reads h.0, world_same old new given.coming comes told same h.1)
+  refused_by status Refusal h = (h.0, read_under words given command (refused_after h.0 status) reads h.1, record { held = same; told = refl }, h.2)
   refused_by status Shelf h = inl (world_same old new given.coming comes told same h)
   refused_by status Entropy h = (record { held = same; told = refl }, asked_weaker (TakesSeeds command given.held) (AskForSeeds words given.held) ask given.coming comes h)
   refused_by status Sink h = absurd h
@@ -173,13 +173,18 @@ untold None = refl
 untold (Some text) = ap Some (sym (append-nil text))
 
 module _ (means : Outcome → Type 0) (asks : ℕ → Type 0) (before after : World) where
-  refusal_whole : (status : Status) → means (refused status) → after ≡ before → IsWhole means before after status (refused status)
-  refusal_whole status is same = subst (λ (w : World). IsWhole means before w status (refused status)) (sym same)
-      (record { meant = is; answered = refl; held = unchanged before.held; told = untold before.told; took = took_none before.coming })
+  refusal_whole : (status : Status) (taken : ℕ) → means (refused_after taken status) → IsUntouched before after → Took taken before.coming after.coming → IsWhole means before after status (refused_after taken status)
+  refusal_whole status taken is same took = record {
+    meant = is;
+    answered = refl;
+    held = subst (IsChanged [] before.held) (sym same.held) (unchanged before.held);
+    told = subst (IsTold [] before.told) (sym same.told) (untold before.told);
+    took = took;
+  }
 
   completes_by : (status : Status) (cause : Cause) → cause_of status ≡ cause → (cause ≡ Done → status ≡ answer.Done) → (cause ≡ Shelf → ⊥) → (cause ≡ Entropy → ⊥) → (cause ≡ Sink → ⊥) → DoesBy means asks before after status cause → Completes means before after status
   completes_by status Done e done shelf entropy sink (o, c) = inr (o, record { meant = c.meant; answered = c.planned ∙ sym (done refl); held = c.carried.0; told = c.carried.1; took = c.took })
-  completes_by status Refusal e done shelf entropy sink d = inr (refused status, refusal_whole status d.0 d.1)
+  completes_by status Refusal e done shelf entropy sink d = inr (refused_after d.0 status, refusal_whole status d.0 d.1 d.2 d.3)
   completes_by status Shelf e done shelf entropy sink d = absurd (shelf refl)
   completes_by status Entropy e done shelf entropy sink d = absurd (entropy refl)
   completes_by status Sink e done shelf entropy sink d = absurd (sink refl)
@@ -218,11 +223,17 @@ never_rose before now e f rose = omega (arith, e, f, rose)
 pub carries_no_entropy : (changes : List Change) (text : List ℕ) (old new : Option Held) (told tells : Option (List ℕ)) (cause : Cause) → Carries changes text old new told tells cause → cause ≡ Entropy → ⊥
 carries_no_entropy changes text old new told tells cause carried e = subst (λ c. Carries changes text old new told tells c) e carried
 
--- words that are no command, whatever is asked beside
+-- words that are no command
+pub usage_does : (words : List (List ℕ)) (held : Option Held) (coming : Option (List (List ℕ))) (told : Option (List ℕ)) → IsUsage words →
+    IfSome held (λ m. Does (Means words (record { held = m; coming = coming })) (AskForSeeds words m) (record { held = held; coming = coming; told = told }) (record { held = held; coming = coming; told = told }) answer.Usage)
+usage_does words None coming told none = tt
+usage_does words (Some m) coming told none = (0, ([], inl (none, refl)), record { held = refl; told = refl }, took_none coming)
+
+-- whatever is asked beside
 pub usage_whole : (words : List (List ℕ)) (held : Option Held) (coming : Option (List (List ℕ))) (told : Option (List ℕ)) (A B C D : Type 0) → IsUsage words →
     IfSome held (λ m. A → B → C → D → Completes (Means words (record { held = m; coming = coming })) (record { held = held; coming = coming; told = told }) (record { held = held; coming = coming; told = told }) answer.Usage)
 usage_whole words None coming told A B C D none = tt
 usage_whole words (Some m) coming told A B C D none = λ a b c d.
     let given : Given = record { held = m; coming = coming } in
     let world : World = record { held = Some m; coming = coming; told = told } in
-    inr (refused answer.Usage, refusal_whole (Means words given) (AskForSeeds words m) world world answer.Usage ([], inl (none, refl)) refl)
+    inr (refused answer.Usage, refusal_whole (Means words given) (AskForSeeds words m) world world answer.Usage 0 ([], inl (none, refl)) (record { held = refl; told = refl }) (took_none coming))

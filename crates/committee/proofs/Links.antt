@@ -1,14 +1,17 @@
--- The holders of a new committee are members, and all but t of them at least.
-use Rattle.std.proofs.Common.{◌≡◌, ℕ, zero, suc, ◌+◌, ◌*◌, ◌^◌, ◌<◌, ◌≤◌, Bool, true, false, cond, ◌&&◌, IsTrue, List, refl, sym, ap, ◌∙◌, arith, count_ones}
+-- The holders of a committee are members, and all but t of them at least; the now files of a period are now files.
+use Rattle.std.proofs.Common.{◌≡◌, ℕ, zero, suc, ◌+◌, ◌*◌, ◌^◌, ◌<◌, ◌≤◌, Bool, true, false, cond, IsTrue, IfSome, Option, Some, None, List, length, refl, ap, ap₂, ◌∙◌, arith, count_ones}
 use Rattle.std.specs.Prelude.{nat_lt, nat_le}
 use Rattle.std.proofs.lemmas.Bool.{lt-ltb, le-leb}
+use Rattle.std.proofs.Math.Pow.{pow_mono}
 use Rattle.std.specs.Int.Count.{ones_cat}
 use Rattle.sharing61.specs.Count.{how_many}
-use Rattle.drillbook.specs.declared.order.Order.{Order}
-use Rattle.drillbook.specs.Orders.{names}
-use Rattle.drillbook.specs.Text.{named_among}
-use Rattle.sharefile.specs.Files.{are_holders}
-use Rattle.committee.specs.Links.{holders_of}
+use Rattle.sharefile.specs.declared.link.Link.{Link}
+use Rattle.sharefile.specs.Names.{is_key_name}
+use Rattle.sharefile.specs.Files.{Now, IsNow, IsLink, are_holders}
+use Rattle.sharefile.proofs.NowLaws.{length-committee_digest}
+use Rattle.sizes.specs.Committees.{is_size, is_bound}
+use Rattle.committee.specs.Links.{holders_of, no_digest, digest_in, link_of, first_link, first_now, following_now, next_now}
+use Rattle.committee.proofs.Committees.{small_size}
 
 below_step : (b : Bool) (k holders : ℕ) → holders < 2 ^ k → holders + cond b 0 (2 ^ k) < 2 ^ suc k
 below_step true k holders lt = omega (arith, lt)
@@ -39,9 +42,67 @@ holders_fit down n t few =
     let enough : nat_le n (t + count_ones (holders_of down n)) ≡ true = le-leb _ _ (omega (arith, few, holders_count down n)) in
     rw (below, enough) refl
 
--- the drilled members are the ones that are down
-same_count : (orders : List Order) (n : ℕ) → named_among orders 0 n ≡ how_many n (names orders)
-same_count orders n = let same : (j : ℕ) → 0 + j ≡ j = λ j. omega arith in λ z. how_many n (λ j. names orders (same j z))
+-- marks that agree give the same holders
+pub holders_same : (f g : ℕ → Bool) (n : ℕ) → ((j : ℕ) → 1 ≤ j → j ≤ n → f j ≡ g j) → holders_of f n ≡ holders_of g n
+holders_same f g zero agree = refl
+holders_same f g (suc n) agree = ap₂ (λ (k : ℕ) (b : Bool). k + cond b 0 (2 ^ n)) (holders_same f g n (λ j from to. agree j from (omega (arith, to)))) (agree (suc n) (omega arith) (omega arith))
 
-pub drilled_few : (orders : List Order) (n t : ℕ) → named_among orders 0 n ≤ t → how_many n (names orders) ≤ t
-drilled_few orders n t few = omega (arith, few, same_count orders n)
+-- and the same now files
+pub first_same : (name : List ℕ) (n t : ℕ) (f g : ℕ → Bool) → ((j : ℕ) → 1 ≤ j → j ≤ n → f j ≡ g j) → first_now name n t (first_link name n t f) ≡ first_now name n t (first_link name n t g)
+first_same name n t f g agree = ap (λ (k : ℕ). first_now name n t (Some (link_of name n t 1 k no_digest))) (holders_same f g n agree)
+
+abbrev following_with_holders : Now → ℕ → ℕ → ℕ → Now
+following_with_holders before n t k = record {
+  name = before.name;
+  n = n;
+  t = t;
+  period = before.period + 1;
+  next_number = before.next_number;
+  link = Some (link_of before.name n t (before.period + 1) k (digest_in before.link));
+}
+
+pub following_same : (before : Now) (n t : ℕ) (f g : ℕ → Bool) → ((j : ℕ) → 1 ≤ j → j ≤ n → f j ≡ g j) → following_now before n t f ≡ following_now before n t g
+following_same before n t f g agree = ap (following_with_holders before n t) (holders_same f g n agree)
+
+pub next_same : (before : Now) (f g : ℕ → Bool) → ((j : ℕ) → 1 ≤ j → j ≤ before.n → f j ≡ g j) → next_now before f ≡ next_now before g
+next_same before f g agree = following_same before before.n before.t f g agree
+
+-- ---- they are now files
+pub holders_small : (down : ℕ → Bool) (n : ℕ) → is_size n ≡ true → holders_of down n < 2 ^ 32
+holders_small down n size =
+    let small : 2 ^ n ≤ 2 ^ 15 = pow_mono (small_size n size) in
+    omega (arith, holders_below down n, small)
+
+pub first_is_now : (name : List ℕ) (n t : ℕ) (down : ℕ → Bool) → IsTrue (is_key_name name) → is_size n ≡ true → is_bound n t ≡ true → how_many n down ≤ t → IsNow (first_now name n t (first_link name n t down))
+first_is_now name n t down named size bound few = record {
+  name = named;
+  size = size;
+  bound = bound;
+  period = omega arith;
+  period_fits = omega arith;
+  number_fits = omega arith;
+  link = record { holders = holders_fit down n t few; holders_fit = holders_small down n size; committee = refl; previous = refl };
+}
+
+digest_length : (name : List ℕ) (n t period : ℕ) (link : Option Link) → IfSome link (IsLink name n t period) → length (digest_in link) ≡ 32
+digest_length name n t period None is = refl
+digest_length name n t period (Some link) is = ap length is.committee ∙ length-committee_digest name n t period link.holders link.previous
+
+pub following_is_now : (before : Now) (n t : ℕ) (down : ℕ → Bool) → IsNow before → before.period < 4294967295 → is_size n ≡ true → is_bound n t ≡ true → how_many n down ≤ t → IsNow (following_now before n t down)
+following_is_now before n t down is next size bound few = record {
+  name = is.name;
+  size = size;
+  bound = bound;
+  period = omega arith;
+  period_fits = omega (arith, next);
+  number_fits = is.number_fits;
+  link = record {
+    holders = holders_fit down n t few;
+    holders_fit = holders_small down n size;
+    committee = refl;
+    previous = digest_length before.name before.n before.t before.period before.link is.link;
+  };
+}
+
+pub next_is_now : (before : Now) (down : ℕ → Bool) → IsNow before → before.period < 4294967295 → how_many before.n down ≤ before.t → IsNow (next_now before down)
+next_is_now before down is next few = following_is_now before before.n before.t down is next is.size is.bound few

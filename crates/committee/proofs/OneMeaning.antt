@@ -1,15 +1,20 @@
 -- What the words and the outside mean is one outcome.
-use Rattle.std.proofs.Common.{◌≡◌, inl, inr, ℕ, List, [], length, take, Option, Some, None, IsSome, Result, Ok, Err, refl, sym, ap, ◌∙◌, subst}
+use Rattle.std.proofs.Common.{◌≡◌, ◌⊎◌, inl, inr, ℕ, List, [], length, take, Option, Some, None, IsSome, Result, Ok, Err, refl, sym, ap, ◌∙◌, subst}
 use Rattle.std.proofs.lemmas.List.{take_at}
+use Rattle.algebra61.specs.Field.{Fp}
 use Rattle.algebra61.specs.Polynomial.{Polynomial}
+use Rattle.plays.specs.Play.{Play}
+use Rattle.periods.specs.Move.{IsMove}
+use Rattle.periods.proofs.Moving.{one_without_result, result_or_none}
 use Rattle.shelf.specs.Held.{Held}
 use Rattle.sharefile.specs.Files.{Now}
 use Rattle.talk.specs.Shape.{create_shape}
 use Rattle.drillbook.specs.declared.order.Order.{Order}
 use Rattle.keyroom.specs.declared.status.Status.{Status}
+use Rattle.keyroom.specs.declared.status.Status.TheVariants.{NoWord}
 use Rattle.keyroom.specs.declared.document.Direction.{Direction}
 use Rattle.keyroom.specs.declared.document.Direction.TheVariants.{Sealing, Opening}
-use Rattle.keyroom.specs.Words.{Command, Recover, Check, Create, Seal, Open, ReadsAs}
+use Rattle.keyroom.specs.Words.{Command, Recover, Check, Create, Refresh, Move, Seal, Open, IsInRange, ReadsAs}
 use Rattle.keyroom.specs.Outcome.{Outcome, done, ThenDo, AreFirst}
 use Rattle.keyroom.specs.Steps.{files_of}
 use Rattle.keyroom.specs.Decoding.{HonestFiles}
@@ -23,10 +28,16 @@ use Rattle.keyroom.proofs.Honest.{one_key, honest_end}
 use Rattle.keyroom.proofs.Checking.{one_check, honest_states}
 use Rattle.keyroom.proofs.Working.{one_work, honest_work}
 use Rattle.drillbook.specs.Orders.{names}
-use Rattle.committee.specs.Links.{first_link}
-use Rattle.committee.specs.Create.{Creates, first_now, create_asked, create_outcome, play_created}
-use Rattle.committee.specs.Meaning.{Given, of_phase, MeansCommand, MeansSome, MeansUnder, Means}
+use Rattle.committee.specs.Links.{first_link, first_now}
+use Rattle.committee.specs.Create.{Creates, create_asked, create_outcome, play_created}
+use Rattle.committee.specs.Standing.{Standing, seeds_for}
+use Rattle.committee.specs.Refresh.{Refreshes, refresh_asked, refresh_outcome, play_refreshed}
+use Rattle.committee.specs.Move.{move_asked, play_moved, move_outcome, EndsMove, Moves}
+use Rattle.committee.specs.Answer.{refused_after}
+use Rattle.committee.specs.Meaning.{Given, of_phase, MeansCommand, MeansSome, MeansUnder, Means, ComeToMove}
 use Rattle.committee.specs.Recovery.{document_command}
+use Rattle.committee.proofs.Movers.{CanMove, proper_move, can_asked}
+use Rattle.committee.proofs.Outs.{one_errors}
 
 one_recover : (name : List ℕ) (held : Held) (a b : Outcome) → MeansRecover name held a → MeansRecover name held b → a ≡ b
 one_recover name held a b p q = p.2 ∙ ap recover_outcome (one_key name held p.0 q.0 p.1 q.1) ∙ sym q.2
@@ -53,35 +64,83 @@ one_create_status : (name : List ℕ) (n t : ℕ) (asked : Result (List Order) S
 one_create_status name n t (Ok orders) coming masks other a b p q = ap (λ (o : Outcome). o.status) p.4 ∙ sym (ap (λ (o : Outcome). o.status) q.4)
 one_create_status name n t (Err status) coming masks other a b p q = ap (λ (o : Outcome). o.status) (p ∙ sym q)
 
-one_outcome : (command : Command) (given : Given) (masks : List (List ℕ)) (a b : Outcome) → IsSome given.coming → MeansCommand command given masks a → MeansCommand command given masks b → a ≡ b
-one_outcome (Create name n t drill) given masks a b told p q = one_created name n t (create_asked name (create_shape n t) drill given.held) given.coming (of_phase masks 0) a b told p q
-one_outcome (Recover name) given masks a b told p q = one_recover name given.held a b p q
-one_outcome (Check name) given masks a b told p q = one_checked name given.held a b p q
-one_outcome (Seal name doc target) given masks a b told p q = one_document Sealing name doc target given.held a b p q
-one_outcome (Open name source target) given masks a b told p q = one_document Opening name source target given.held a b p q
+one_refreshed : (asked : Result Standing Status) (coming : Option (List (List ℕ))) (masks : List ℕ) (a b : Outcome) → IsSome coming →
+    ThenDo asked (Refreshes coming masks) a → ThenDo asked (Refreshes coming masks) b → a ≡ b
+one_refreshed (Ok st) coming masks a b told p q =
+    p.4 ∙ ap (λ seeds. refresh_outcome st seeds masks (play_refreshed st seeds masks)) (one_seeds coming p.0 q.0 told (p.1 ∙ sym q.1) p.2 q.2) ∙ sym q.4
+one_refreshed (Err status) coming masks a b told p q = p ∙ sym q
 
-one_end : (command : Command) (given : Given) (masks other : List (List ℕ)) (a b : Outcome) → MeansCommand command given masks a → MeansCommand command given other b → a.status ≡ b.status
-one_end (Create name n t drill) given masks other a b p q = one_create_status name n t (create_asked name (create_shape n t) drill given.held) given.coming (of_phase masks 0) (of_phase other 0) a b p q
-one_end (Recover name) given masks other a b p q = ap (λ (o : Outcome). o.status) (one_recover name given.held a b p q)
-one_end (Check name) given masks other a b p q = ap (λ (o : Outcome). o.status) (one_checked name given.held a b p q)
-one_end (Seal name doc target) given masks other a b p q = ap (λ (o : Outcome). o.status) (one_document Sealing name doc target given.held a b p q)
-one_end (Open name source target) given masks other a b p q = ap (λ (o : Outcome). o.status) (one_document Opening name source target given.held a b p q)
+one_refresh_status : (asked : Result Standing Status) (coming : Option (List (List ℕ))) (masks other : List ℕ) (a b : Outcome) →
+    ThenDo asked (Refreshes coming masks) a → ThenDo asked (Refreshes coming other) b → a.status ≡ b.status
+one_refresh_status (Ok st) coming masks other a b p q = ap (λ (o : Outcome). o.status) p.4 ∙ sym (ap (λ (o : Outcome). o.status) q.4)
+one_refresh_status (Err status) coming masks other a b p q = ap (λ (o : Outcome). o.status) (p ∙ sym q)
+
+-- under the same masks a play of a move has one end
+one_refusal : (taken : ℕ) (lane other : ℕ) (syndrome list : List Fp) → lane ≡ other → syndrome ≡ list → refused_after taken (NoWord lane syndrome) ≡ refused_after taken (NoWord other list)
+one_refusal taken lane other syndrome list e f = rw (e, f) refl
+
+one_ended : (st : Standing) (m u : ℕ) (masks : List ℕ) (p : Play) (a b : Outcome) → IsMove st.now.t p → EndsMove st m u masks p a → EndsMove st m u masks p b → a ≡ b
+one_ended st m u masks p a b move (inl (errors, have, e)) (inl (others, too, f)) = e ∙ ap (move_outcome st m u masks p) (one_errors st.now.t p errors others move have too) ∙ sym f
+one_ended st m u masks p a b move (inl (errors, have, e)) (inr (lane, syndrome, none, f)) = absurd (result_or_none st.now.t p errors lane syndrome move have none)
+one_ended st m u masks p a b move (inr (lane, syndrome, none, e)) (inl (errors, have, f)) = absurd (result_or_none st.now.t p errors lane syndrome move have none)
+one_ended st m u masks p a b move (inr (lane, syndrome, none, e)) (inr (other, list, too, f)) =
+    let one = one_without_result st.now.t p lane other syndrome list move none too in
+    e ∙ one_refusal (seeds_for st) lane other syndrome list one.0 one.1 ∙ sym f
+
+one_moved : (name : List ℕ) (m u : ℕ) (drill : Option (List ℕ)) (held : Held) (asked : Result Standing Status) → move_asked name m u drill held ≡ asked → IsInRange (Move name m u drill) →
+    (coming : Option (List (List ℕ))) (masks : List ℕ) (a b : Outcome) → IsSome coming → ThenDo asked (Moves m u coming masks) a → ThenDo asked (Moves m u coming masks) b → a ≡ b
+one_moved name m u drill held (Ok st) is range coming masks a b told p q =
+    let can : CanMove st m u = can_asked name m u drill held st range is in
+    let ended = subst (λ (seeds : List (List ℕ)). EndsMove st m u masks (play_moved st m u seeds masks) b) (sym (one_seeds coming p.0 q.0 told (p.1 ∙ sym q.1) p.2 q.2)) q.4 in
+    one_ended st m u masks (play_moved st m u p.0 masks) a b (proper_move st m u can p.0 masks p.3) p.4 ended
+one_moved name m u drill held (Err status) is range coming masks a b told p q = p ∙ sym q
+
+one_outcome : (command : Command) (given : Given) (masks : List (List ℕ)) (a b : Outcome) → IsInRange command → IsSome given.coming → MeansCommand command given masks a → MeansCommand command given masks b → a ≡ b
+one_outcome (Create name n t drill) given masks a b range told p q = one_created name n t (create_asked name (create_shape n t) drill given.held) given.coming (of_phase masks 0) a b told p q
+one_outcome (Refresh name drill) given masks a b range told p q = one_refreshed (refresh_asked name drill given.held) given.coming (of_phase masks 0) a b told p q
+one_outcome (Move name m u drill) given masks a b range told p q = one_moved name m u drill given.held (move_asked name m u drill given.held) refl range given.coming (of_phase masks 0) a b told p q
+one_outcome (Recover name) given masks a b range told p q = one_recover name given.held a b p q
+one_outcome (Check name) given masks a b range told p q = one_checked name given.held a b p q
+one_outcome (Seal name doc target) given masks a b range told p q = one_document Sealing name doc target given.held a b p q
+one_outcome (Open name source target) given masks a b range told p q = one_document Opening name source target given.held a b p q
+
+-- of one status, unless a move came to its phase
+abbrev OneStatus : Command → Held → Outcome → Outcome → Type 0
+OneStatus command held a b = (a.status ≡ b.status) ⊎ ((name : List ℕ) × (m : ℕ) × (u : ℕ) × (drill : Option (List ℕ)) × (command ≡ Move name m u drill) × ((st : Standing) × (move_asked name m u drill held ≡ Ok st)))
+
+one_move_status : (name : List ℕ) (m u : ℕ) (drill : Option (List ℕ)) (held : Held) (asked : Result Standing Status) → move_asked name m u drill held ≡ asked → (coming : Option (List (List ℕ))) (masks other : List ℕ) (a b : Outcome) →
+    ThenDo asked (Moves m u coming masks) a → ThenDo asked (Moves m u coming other) b → OneStatus (Move name m u drill) held a b
+one_move_status name m u drill held (Ok st) is coming masks other a b p q = inr (name, m, u, drill, refl, (st, is))
+one_move_status name m u drill held (Err status) is coming masks other a b p q = inl (ap (λ (o : Outcome). o.status) (p ∙ sym q))
+
+one_end : (command : Command) (given : Given) (masks other : List (List ℕ)) (a b : Outcome) → MeansCommand command given masks a → MeansCommand command given other b → OneStatus command given.held a b
+one_end (Create name n t drill) given masks other a b p q = inl (one_create_status name n t (create_asked name (create_shape n t) drill given.held) given.coming (of_phase masks 0) (of_phase other 0) a b p q)
+one_end (Refresh name drill) given masks other a b p q = inl (one_refresh_status (refresh_asked name drill given.held) given.coming (of_phase masks 0) (of_phase other 0) a b p q)
+one_end (Move name m u drill) given masks other a b p q = one_move_status name m u drill given.held (move_asked name m u drill given.held) refl given.coming (of_phase masks 0) (of_phase other 0) a b p q
+one_end (Recover name) given masks other a b p q = inl (ap (λ (o : Outcome). o.status) (one_recover name given.held a b p q))
+one_end (Check name) given masks other a b p q = inl (ap (λ (o : Outcome). o.status) (one_checked name given.held a b p q))
+one_end (Seal name doc target) given masks other a b p q = inl (ap (λ (o : Outcome). o.status) (one_document Sealing name doc target given.held a b p q))
+one_end (Open name source target) given masks other a b p q = inl (ap (λ (o : Outcome). o.status) (one_document Opening name source target given.held a b p q))
 
 pub one_meaning : (words : List (List ℕ)) (given : Given) (masks : List (List ℕ)) (a b : Outcome) → IsSome given.coming → MeansUnder masks words given a → MeansUnder masks words given b → a ≡ b
 one_meaning words given masks a b told (inl (none, e)) (inl (on, f)) = e ∙ sym f
 one_meaning words given masks a b told (inl (none, e)) (inr (command, reads, means)) = absurd (none command reads)
 one_meaning words given masks a b told (inr (command, reads, means)) (inl (none, f)) = absurd (none command reads)
 one_meaning words given masks a b told (inr (command, reads, means)) (inr (other, again, meant)) =
-    one_outcome other given masks a b told (subst (λ c. MeansCommand c given masks a) (same_command words command other reads again) means) meant
+    one_outcome other given masks a b again.in_range told (subst (λ c. MeansCommand c given masks a) (same_command words command other reads again) means) meant
 
-status_under : (words : List (List ℕ)) (given : Given) (masks others : List (List ℕ)) (a b : Outcome) → MeansUnder masks words given a → MeansUnder others words given b → a.status ≡ b.status
-status_under words given masks others a b (inl (none, e)) (inl (on, f)) = ap (λ (o : Outcome). o.status) (e ∙ sym f)
+came_to_move : (words : List (List ℕ)) (command : Command) (held : Held) (a b : Outcome) → ReadsAs words command → OneStatus command held a b → (a.status ≡ b.status) ⊎ ComeToMove words held
+came_to_move words command held a b reads (inl same) = inl same
+came_to_move words command held a b reads (inr (name, m, u, drill, is, asked)) = inr (name, m, u, drill, subst (ReadsAs words) is reads, asked)
+
+status_under : (words : List (List ℕ)) (given : Given) (masks others : List (List ℕ)) (a b : Outcome) → MeansUnder masks words given a → MeansUnder others words given b → (a.status ≡ b.status) ⊎ ComeToMove words given.held
+status_under words given masks others a b (inl (none, e)) (inl (on, f)) = inl (ap (λ (o : Outcome). o.status) (e ∙ sym f))
 status_under words given masks others a b (inl (none, e)) (inr (command, reads, means)) = absurd (none command reads)
 status_under words given masks others a b (inr (command, reads, means)) (inl (none, f)) = absurd (none command reads)
 status_under words given masks others a b (inr (command, reads, means)) (inr (other, again, meant)) =
-    one_end other given masks others a b (subst (λ c. MeansCommand c given masks a) (same_command words command other reads again) means) meant
+    came_to_move words other given.held a b again (one_end other given masks others a b (subst (λ c. MeansCommand c given masks a) (same_command words command other reads again) means) meant)
 
-pub one_status : (words : List (List ℕ)) (given : Given) (a b : Outcome) → Means words given a → Means words given b → a.status ≡ b.status
+pub one_status : (words : List (List ℕ)) (given : Given) (a b : Outcome) → Means words given a → Means words given b → (a.status ≡ b.status) ⊎ ComeToMove words given.held
 one_status words given a b p q = status_under words given p.0 q.0 a b p.1 q.1
 
 -- words that are a command mean what it means

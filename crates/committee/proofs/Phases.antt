@@ -1,7 +1,8 @@
--- The phase of a create is the play of its run.
-use Rattle.std.proofs.Common.{◌≡◌, inl, inr, ◌⊎◌, ℕ, zero, suc, ◌+◌, ◌-◌, ◌*◌, ◌<◌, ◌≤◌, Bool, true, false, cond, List, [], ◌∷◌, length, map, get_or, take, Option, Some, None, refl, sym, ap, ap₂, ◌∙◌, subst, arith, All}
+-- What a phase of five rounds leaves is what the play of its run defines, whichever minds go like members of the sharing.
+use Rattle.std.proofs.Common.{◌≡◌, inl, inr, ◌⊎◌, ℕ, zero, suc, ◌+◌, ◌-◌, ◌*◌, ◌<◌, ◌≤◌, Bool, true, false, cond, List, [], ◌∷◌, length, map, get_or, take, Some, refl, sym, ap, ap₂, ◌∙◌, subst, arith, All}
 use Rattle.std.specs.List.{range_with_len}
-use Rattle.std.proofs.lemmas.List.{length-map, take_all}
+use Rattle.std.proofs.lemmas.List.{take_all}
+use Rattle.std.proofs.lemmas.List.FromFn.{get_or-map-range_with_len}
 use Rattle.algebra61.specs.Field.{Fp}
 use Rattle.algebra61.specs.Grid.{Degree, AllShort}
 use Rattle.bivar61.specs.Grids.{IsGrid}
@@ -10,55 +11,62 @@ use Rattle.chance61.specs.Draws.{grids_drawn, grid_drawn, five_grids_drawn, draw
 use Rattle.chance61.proofs.DrawLemmas.{length-elements_drawn}
 use Rattle.sharing61.specs.Count.{how_many}
 use Rattle.sharing61.proofs.Count.{how_many_same}
-use Rattle.talk.specs.Shape.{Shape, Lawful, seats, rounds}
+use Rattle.talk.specs.Shape.{Shape, Lawful}
 use Rattle.sizes.specs.Committees.{IsCommittee}
 use Rattle.talk.specs.Hears.{Hearing, Seated}
-use Rattle.talk.specs.Sync.{AllAllowed, all_seats, nobody, sync}
+use Rattle.talk.specs.Sync.{Ways, nobody, sync}
 use Rattle.talk.specs.Basics.{Nth}
 use Rattle.plays.specs.Play.{Play}
 use Rattle.plays.specs.Law.{ProperPlay, HonestIn}
-use Rattle.plays.specs.Stage.{IsTurn}
-use Rattle.members.specs.Member.{Member, member_at, member_ways, member_word, member_after_hear, member_turn}
-use Rattle.members.specs.Shares.{member_shares, accepted_in, accepted_count, IsDone}
-use Rattle.members.specs.Laws.{DoneAs, BeginSharing}
-use Rattle.members.proofs.Sums.{done_is_play}
+use Rattle.plays.specs.Transcript.{HonestSeat}
+use Rattle.members.specs.Member.{Member, member_at, member_ways, member_turn}
+use Rattle.members.specs.Shares.{accepted_count}
+use Rattle.members.specs.Laws.{BeginSharing, member_done}
 use Rattle.members.proofs.Minds.{ends_done, proper, honest_in_masks}
 use Rattle.machines.specs.Machines.{GoesLike, InMasks}
 use Rattle.machines.proofs.Runs.{length-sync, nobody_cut}
 use Rattle.drillbook.specs.declared.order.Order.{Order}
 use Rattle.drillbook.specs.Orders.{names}
-use Rattle.drillbook.specs.Text.{named_among}
 use Rattle.drillbook.specs.Word.{DrilledMind, drilled_ways}
 use Rattle.drillbook.proofs.Told.{unnamed_speaks}
-use Rattle.jointkey.specs.Create.{MadeFor}
-use Rattle.talk.specs.Shape.{create_shape}
-use Rattle.committee.specs.Create.{Dealt, grids_in, grids_on, dealt_by, drilled_at, drilled_from, AreMasks, play_created, created_shares}
-use Rattle.committee.specs.Phase.{AllDone, unless_down, shares_in, accepted_first, shares_created}
+use Rattle.committee.specs.Run.{numbered, drilled_on, drilled_all, AreMasks, phase_play}
+use Rattle.committee.specs.declared.phase.Phase.{Phase}
+use Rattle.committee.specs.Phase.{marked, marks_of, unless_down, shares_given, AllDone, shares_in, accepted_first, EndDone, IsReadOff, IsPhase}
 
--- ---- the minds at the start
-length-drilled : (s : Shape) (orders : List Order) (seat : ℕ) (dealt : List Dealt) → length (drilled_from s orders seat dealt) ≡ length dealt
-length-drilled s orders seat [] = refl
-length-drilled s orders seat (grids ∷ dealt) = ap suc (length-drilled s orders (seat + 1) dealt)
+-- ---- items with their numbers
+module _ {A B : Type 0} where
+  pub length-numbered : (f : ℕ → A → B) (k : ℕ) (xs : List A) → length (numbered f k xs) ≡ length xs
+  length-numbered f k [] = refl
+  length-numbered f k (x ∷ xs) = ap suc (length-numbered f (k + 1) xs)
 
-pub seated_from : (s : Shape) (orders : List Order) (seat : ℕ) (dealt : List Dealt) →
-    s.checks ≡ 0 → Seated (λ (d : DrilledMind Member) (t : Shape) (k : ℕ). (d.shape ≡ t) × (d.seat ≡ k) × MadeFor d.inner t k) s seat (drilled_from s orders seat dealt)
-seated_from s orders seat [] five = tt
-seated_from s orders seat (grids ∷ dealt) five = ((refl, refl, (refl, refl, five)), seated_from s orders (seat + 1) dealt five)
+  pub nth_numbered : (f : ℕ → A → B) (d : A) (k i : ℕ) (xs : List A) → i < length xs → Nth i (f (k + i) (get_or xs i d)) (numbered f k xs)
+  nth_numbered f d k i [] lt = absurd (omega (arith, lt))
+  nth_numbered f d k zero (x ∷ xs) lt = let e : k ≡ k + 0 = omega arith in ap (λ (n : ℕ). f n x) e
+  nth_numbered f d k (suc i) (x ∷ xs) lt =
+      let e : (k + 1) + i ≡ k + suc i = omega arith in
+      subst (λ (n : ℕ). Nth i (f n (get_or xs i d)) (numbered f (k + 1) xs)) e (nth_numbered f d (k + 1) i xs (omega (arith, lt)))
 
-pub fresh_from : (s : Shape) (orders : List Order) (seat : ℕ) (dealt : List Dealt) → Hearing (λ (d : DrilledMind Member) (round : ℕ). IsTurn round d.inner.stage) 1 (drilled_from s orders seat dealt)
-fresh_from s orders seat [] = tt
-fresh_from s orders seat (grids ∷ dealt) = (refl, fresh_from s orders (seat + 1) dealt)
+pub nth_get : {A : Type 0} (d : A) (i : ℕ) (x : A) (xs : List A) → Nth i x xs → (i < length xs) × (get_or xs i d ≡ x)
+nth_get d i x [] h = absurd h
+nth_get d zero x (y ∷ ys) h = (omega arith, h)
+nth_get d (suc i) x (y ∷ ys) h = let r = nth_get d i x ys h in (omega (arith, r.0), r.1)
 
--- the mind at place k
-start_nth : (s : Shape) (orders : List Order) (dealt : List Dealt) (seat k : ℕ) → k < length dealt → Nth k (drilled_at s orders (seat + k) (get_or dealt k None)) (drilled_from s orders seat dealt)
-start_nth s orders [] seat k lt = absurd (omega (arith, lt))
-start_nth s orders (grids ∷ dealt) seat zero lt = let e : seat ≡ seat + 0 = omega arith in ap (λ (n : ℕ). drilled_at s orders n grids) e
-start_nth s orders (grids ∷ dealt) seat (suc k) lt =
-    let e : (seat + 1) + k ≡ seat + suc k = omega arith in
-    subst (λ (n : ℕ). Nth k (drilled_at s orders n (get_or dealt k None)) (drilled_from s orders (seat + 1) dealt)) e (start_nth s orders dealt (seat + 1) k (omega (arith, lt)))
+module _ {M : Type 0} where
+  -- the drilled minds at the start
+  pub drilled_nth : (s : Shape) (orders : List Order) (minds : List M) (k i : ℕ) (m : M) → Nth i m minds → Nth i (drilled_on s orders (k + i) m) (numbered (drilled_on s orders) k minds)
+  drilled_nth s orders minds k i m at =
+      let g = nth_get m i m minds at in
+      subst (λ (x : M). Nth i (drilled_on s orders (k + i) x) (numbered (drilled_on s orders) k minds)) g.1 (nth_numbered (drilled_on s orders) m k i minds g.0)
 
-length-dealt : (degree : ℕ) (seeds : List (List ℕ)) → length (dealt_by degree seeds) ≡ length seeds
-length-dealt degree seeds = length-map seeds (λ seed. Some (grids_drawn degree seed))
+  pub drilled_hearing : (may : M → ℕ → Type 0) (s : Shape) (orders : List Order) (k : ℕ) (minds : List M) → Hearing may 1 minds →
+      Hearing (λ (d : DrilledMind M) (round : ℕ). may d.inner round) 1 (numbered (drilled_on s orders) k minds)
+  drilled_hearing may s orders k [] h = tt
+  drilled_hearing may s orders k (m ∷ ms) h = (h.0, drilled_hearing may s orders (k + 1) ms h.1)
+
+  pub drilled_seated : (made : M → Shape → ℕ → Type 0) (s : Shape) (orders : List Order) (k : ℕ) (minds : List M) → Seated made s k minds →
+      Seated (λ (d : DrilledMind M) (t : Shape) (seat : ℕ). (d.shape ≡ t) × (d.seat ≡ seat) × made d.inner t seat) s k (numbered (drilled_on s orders) k minds)
+  drilled_seated made s orders k [] h = tt
+  drilled_seated made s orders k (m ∷ ms) h = ((refl, refl, h.0), drilled_seated made s orders (k + 1) ms h.1)
 
 -- ---- the grids of a seed
 all_short : (n : ℕ) (g : List (List Fp)) → All (λ (p : List Fp). length p ≡ n) g → AllShort n g
@@ -72,7 +80,7 @@ one_drawn : (d : ℕ) (seed : List ℕ) (place : ℕ) → d ≤ 14 → IsGrid d 
 unfolding grid_drawn
 one_drawn d seed place small = grid_of_is d (elements_drawn ((d + 1) * (d + 1)) seed place).0 small (length-elements_drawn ((d + 1) * (d + 1)) seed place)
 
-none_degree : (d : ℕ) → Degree d []
+pub none_degree : (d : ℕ) → Degree d []
 none_degree d = record { in_x = omega arith; in_y = tt }
 
 drawn_degree : (d : ℕ) (seed : List ℕ) (n place l : ℕ) → d ≤ 14 → Degree d (get_or (drawn_in_turn (grid_drawn d seed) n place).0 l [])
@@ -80,54 +88,17 @@ drawn_degree d seed zero place l small = none_degree d
 drawn_degree d seed (suc n) place zero small = degree_of d _ (one_drawn d seed place small)
 drawn_degree d seed (suc n) place (suc l) small = drawn_degree d seed n (grid_drawn d seed place).1 l small
 
-grids_degree : (d : ℕ) (seed : List ℕ) (lane : ℕ) → d ≤ 14 → Degree d (get_or (grids_drawn d seed) lane [])
+pub grids_degree : (d : ℕ) (seed : List ℕ) (lane : ℕ) → d ≤ 14 → Degree d (get_or (grids_drawn d seed) lane [])
 unfolding five_grids_drawn
 grids_degree d seed lane small = drawn_degree d seed 5 0 lane small
 
--- those that a seat deals
-dealt_degree : (d : ℕ) (seeds : List (List ℕ)) (place lane : ℕ) → d ≤ 14 → Degree d (get_or (grids_in (get_or (dealt_by d seeds) place None)) lane [])
-dealt_degree d [] place lane small = none_degree d
-dealt_degree d (seed ∷ seeds) zero lane small = grids_degree d seed lane small
-dealt_degree d (seed ∷ seeds) (suc place) lane small = dealt_degree d seeds place lane small
+-- the grids of a list, each of this degree
+pub each_degree : (d : ℕ) (grids : List (List (List Fp))) (lane : ℕ) → All (IsGrid d) grids → Degree d (get_or grids lane [])
+each_degree d [] lane h = none_degree d
+each_degree d (g ∷ gs) zero h = degree_of d g (h 0 g (omega arith))
+each_degree d (g ∷ gs) (suc lane) h = each_degree d gs lane (λ k z lt. h (suc k) z (omega (arith, lt)))
 
--- ---- the end
--- every mind ends as the play defines for its seat, unless it is down
-unfoldable pub EndsAs : Play → (ℕ → Bool) → ℕ → List (DrilledMind Member) → Type 0
-EndsAs p down seat ms = (k : ℕ) → k < length ms → down (seat + k) ≡ false → (m : DrilledMind Member) × Nth k m ms × DoneAs p (seat + k) m.inner
-
-ends_here : (p : Play) (down : ℕ → Bool) (seat : ℕ) (m : DrilledMind Member) (ms : List (DrilledMind Member)) → EndsAs p down seat (m ∷ ms) → down seat ≡ false → DoneAs p seat m.inner
-unfolding EndsAs
-ends_here p down seat m ms h up =
-    let e : seat + 0 ≡ seat = omega arith in
-    let r = h 0 (omega arith) (ap down e ∙ up) in
-    subst (λ (n : ℕ). DoneAs p n m.inner) e (subst (λ (x : DrilledMind Member). DoneAs p (seat + 0) x.inner) (sym r.1) r.2)
-
-ends_later : (p : Play) (down : ℕ → Bool) (seat : ℕ) (m : DrilledMind Member) (ms : List (DrilledMind Member)) → EndsAs p down seat (m ∷ ms) → EndsAs p down (seat + 1) ms
-unfolding EndsAs
-ends_later p down seat m ms h k lt up =
-    let e : (seat + 1) + k ≡ seat + suc k = omega arith in
-    let r = h (suc k) (omega (arith, lt)) (ap down (sym e) ∙ up) in
-    (r.0, r.1, subst (λ (n : ℕ). DoneAs p n r.0.inner) (sym e) r.2)
-
-done_is_done : (p : Play) (j : ℕ) (m : Member) → DoneAs p j m → IsDone m.stage
-done_is_done p j m h = subst IsDone (sym h.stage) tt
-
-pub all_done : (p : Play) (down : ℕ → Bool) (seat : ℕ) (ms : List (DrilledMind Member)) → EndsAs p down seat ms → AllDone down seat ms
-all_done p down seat [] h = tt
-all_done p down seat (m ∷ ms) h = (λ up. done_is_done p seat m.inner (ends_here p down seat m ms h up), all_done p down (seat + 1) ms (ends_later p down seat m ms h))
-
-given_same : (b : Bool) (xs ys : List Fp) → (b ≡ false → xs ≡ ys) → unless_down b xs ≡ unless_down b ys
-given_same true xs ys h = refl
-given_same false xs ys h = ap (λ zs. Some zs) (h refl)
-
-pub shares_same : (p : Play) (down : ℕ → Bool) (seat : ℕ) (ms : List (DrilledMind Member)) → EndsAs p down seat ms →
-    shares_in down seat ms ≡ map (λ j. unless_down (down j) (created_shares p j)) (range_with_len seat (length ms))
-shares_same p down seat [] h = refl
-shares_same p down seat (m ∷ ms) h =
-    ap₂ (λ x xs. x ∷ xs)
-    (given_same (down seat) (member_shares m.inner) (created_shares p seat) (λ up. (done_is_play p seat m.inner (ends_here p down seat m ms h up)).shares))
-    (shares_same p down (seat + 1) ms (ends_later p down seat m ms h))
-
+-- ---- who isn't down
 -- someone isn't down
 pub record SomeUp (down : ℕ → Bool) (seat n : ℕ) : Type 0 where
   pub place : ℕ
@@ -145,16 +116,163 @@ either : (b : Bool) → (b ≡ true) ⊎ (b ≡ false)
 either true = inl refl
 either false = inr refl
 
-up_step : (down : ℕ → Bool) (seat n place : ℕ) → down seat ≡ true → place < suc n → down (seat + place) ≡ false → SomeUp down (seat + 1) n
+pub up_step : (down : ℕ → Bool) (seat n place : ℕ) → down seat ≡ true → place < suc n → down (seat + place) ≡ false → SomeUp down (seat + 1) n
 up_step down seat n zero out lt up = let e : seat + 0 ≡ seat = omega arith in absurd (true_not_false (sym out ∙ sym (ap down e) ∙ up))
 up_step down seat n (suc k) out lt up = let e : (seat + 1) + k ≡ seat + suc k = omega arith in record { place = k; within = omega (arith, lt); up = ap down e ∙ up }
 
-pub accepted_same : (p : Play) (down : ℕ → Bool) (seat : ℕ) (ms : List (DrilledMind Member)) → EndsAs p down seat ms → SomeUp down seat (length ms) → accepted_first down seat ms ≡ accepted_count p
-accepted_same p down seat [] h s = absurd (omega (arith, s.within))
-accepted_same p down seat (m ∷ ms) h s =
-    accepted_cases (down seat) (accepted_first down (seat + 1) ms) (accepted_in m.inner.stage) (accepted_count p)
-    (λ out. accepted_same p down (seat + 1) ms (ends_later p down seat m ms h) (up_step down seat (length ms) s.place out s.within s.up))
-    (λ up. (done_is_play p seat m.inner (ends_here p down seat m ms h up)).accepted)
+unless_same : (b : Bool) (xs ys : List Fp) → (b ≡ false → xs ≡ ys) → unless_down b xs ≡ unless_down b ys
+unless_same true xs ys h = refl
+unless_same false xs ys h = ap (λ zs. Some zs) (h refl)
+
+-- ---- minds that end where machines do
+module _ {M C : Type 0} (is : M → C → Type 0) (ended : ℕ → C) where
+  -- the mind on each seat that isn't down stands where `ended` says of it; the first of these minds is on the seat `seat`
+  unfoldable pub EndsAs : (ℕ → Bool) → ℕ → List (DrilledMind M) → Type 0
+  EndsAs down seat ms = (k : ℕ) → k < length ms → down (seat + k) ≡ false → (m : DrilledMind M) × Nth k m ms × is m.inner (ended (seat + k))
+
+  pub ends_here : (down : ℕ → Bool) (seat : ℕ) (m : DrilledMind M) (ms : List (DrilledMind M)) → EndsAs down seat (m ∷ ms) → down seat ≡ false → is m.inner (ended seat)
+  unfolding EndsAs
+  ends_here down seat m ms h up =
+      let e : seat + 0 ≡ seat = omega arith in
+      let r = h 0 (omega arith) (ap down e ∙ up) in
+      subst (λ (n : ℕ). is m.inner (ended n)) e (subst (λ (x : DrilledMind M). is x.inner (ended (seat + 0))) (sym r.1) r.2)
+
+  pub ends_later : (down : ℕ → Bool) (seat : ℕ) (m : DrilledMind M) (ms : List (DrilledMind M)) → EndsAs down seat (m ∷ ms) → EndsAs down (seat + 1) ms
+  unfolding EndsAs
+  ends_later down seat m ms h k lt up =
+      let e : (seat + 1) + k ≡ seat + suc k = omega arith in
+      let r = h (suc k) (omega (arith, lt)) (ap down (sym e) ∙ up) in
+      (r.0, r.1, subst (λ (n : ℕ). is r.0.inner (ended n)) (sym e) r.2)
+
+  -- the same for marks that mark who is down
+  pub ends_marked : (down at : ℕ → Bool) (seat : ℕ) (ms : List (DrilledMind M)) →
+      ((k : ℕ) → k < length ms → at (seat + k) ≡ down (seat + k)) → EndsAs down seat ms → EndsAs at seat ms
+  unfolding EndsAs
+  ends_marked down at seat ms agree h k lt up = h k lt (sym (agree k lt) ∙ up)
+
+  -- so they are done, where who stands there is done
+  pub all_done : (done : M → Type 0) → ((j : ℕ) (m : M) → is m (ended j) → done m) → (down : ℕ → Bool) (seat : ℕ) (ms : List (DrilledMind M)) → EndsAs down seat ms → AllDone done down seat ms
+  all_done done each down seat [] h = tt
+  all_done done each down seat (m ∷ ms) h = (λ up. each seat m.inner (ends_here down seat m ms h up), all_done done each down (seat + 1) ms (ends_later down seat m ms h))
+
+  -- and count as many instances as all of them do
+  pub accepted_same : (accepted : M → ℕ) (count : ℕ) → ((j : ℕ) (m : M) → is m (ended j) → accepted m ≡ count) → (down : ℕ → Bool) (seat : ℕ) (ms : List (DrilledMind M)) →
+      EndsAs down seat ms → SomeUp down seat (length ms) → accepted_first accepted down seat ms ≡ count
+  accepted_same accepted count each down seat [] h s = absurd (omega (arith, s.within))
+  accepted_same accepted count each down seat (m ∷ ms) h s =
+      accepted_cases (down seat) (accepted_first accepted down (seat + 1) ms) (accepted m.inner) count
+      (λ out. accepted_same accepted count each down (seat + 1) ms (ends_later down seat m ms h) (up_step down seat (length ms) s.place out s.within s.up))
+      (λ up. each seat m.inner (ends_here down seat m ms h up))
+
+  pub shares_same : (value : M → List Fp) (lanes : ℕ → List Fp) → ((j : ℕ) (m : M) → is m (ended j) → value m ≡ lanes j) → (down : ℕ → Bool) (seat : ℕ) (ms : List (DrilledMind M)) →
+      EndsAs down seat ms → shares_in value down seat ms ≡ map (λ j. unless_down (down j) (lanes j)) (range_with_len seat (length ms))
+  shares_same value lanes each down seat [] h = refl
+  shares_same value lanes each down seat (m ∷ ms) h =
+      ap₂ (λ x xs. x ∷ xs)
+      (unless_same (down seat) (value m.inner) (lanes seat) (λ up. each seat m.inner (ends_here down seat m ms h up)))
+      (shares_same value lanes each down (seat + 1) ms (ends_later down seat m ms h))
+
+-- ---- minds that go like members, some of them drilled
+-- the setting of a phase of five rounds among n members, with grids of this degree
+abbrev pub five_rounds : ℕ → ℕ → ℕ → Shape
+five_rounds n t degree = record { receivers = n; bound = t; degree = degree; dealers = n; shift = 0; checks = 0 }
+
+pub lawful_five : (n t degree : ℕ) → IsCommittee n t → degree ≤ t → Lawful (five_rounds n t degree)
+lawful_five n t degree c low = record {
+  receivers = (omega (arith, c.third, c.some_bad), c.most);
+  dealers = (omega (arith, c.third, c.some_bad), c.most);
+  some_bad = c.some_bad;
+  third = c.third;
+  degree = low;
+  committees = inl (record { no_shift = refl; same = refl; checks = omega arith });
+}
+
+module _ {M : Type 0} where
+  -- a drilled mind on a seat that no order names stands where the mind inside stands
+  abbrev pub drilled_is : {C : Type 0} → (M → C → Type 0) → DrilledMind M → C → Type 0
+  drilled_is is d c = (names d.orders d.seat ≡ false) × is d.inner c
+
+  -- and goes like it
+  pub undrilled_go : {C : Type 0} (w : Ways M) (v : Ways C) (is : M → C → Type 0) (turn : ℕ → C → Type 0) → GoesLike w v is turn → GoesLike (drilled_ways w) v (drilled_is is) turn
+  undrilled_go w v is turn goes = record {
+    same_word = λ d c round speaks h. unnamed_speaks d.shape d.orders d.seat round d.second (w.word d.inner round) h.0 ∙ goes.same_word d.inner c round speaks h.1;
+    same_next = λ d c round heard speaks h. (h.0, goes.same_next d.inner c round heard speaks h.1);
+  }
+
+  -- the minds of a phase at its start: those on the seats that aren't down are drilled by nobody, and go like members that
+  -- deal their own grids
+  pub record Starts (w : Ways M) (is : M → Member → Type 0) (n t degree : ℕ) (orders : List Order) (down : ℕ → Bool) (own : ℕ → List (List (List Fp))) (minds : List M) : Type 0 where
+    pub committee : IsCommittee n t
+    pub low : degree ≤ t
+    pub goes : GoesLike w member_ways is member_turn
+    pub all : length minds ≡ n
+    pub unnamed : (seat : ℕ) → down seat ≡ false → names orders seat ≡ false
+    pub degrees : (seat lane : ℕ) → down seat ≡ false → Degree degree (get_or (own seat) lane [])
+    pub fresh : (seat : ℕ) → HonestSeat (five_rounds n t degree) down seat → (m : M) × Nth (seat - 1) m minds × is m (member_at (five_rounds n t degree) seat (own seat))
+
+  module _ (w : Ways M) (is : M → Member → Type 0) (n t degree : ℕ) (orders : List Order) (down : ℕ → Bool) (own : ℕ → List (List (List Fp))) (minds : List M) (st : Starts w is n t degree orders down own minds)
+      (masks : List ℕ) (allowed : AreMasks w (five_rounds n t degree) orders minds masks) where
+    -- the play of the run
+    abbrev played : Play
+    played = phase_play w (five_rounds n t degree) down own orders minds masks
+
+    begins : BeginSharing (drilled_ways w) (drilled_is is) (five_rounds n t degree) masks (drilled_all (five_rounds n t degree) orders minds) down own
+    begins = record {
+      goes = undrilled_go w member_ways is member_turn st.goes;
+      setting = lawful_five n t degree st.committee st.low;
+      rounds = omega (arith, allowed.0);
+      seated = length-numbered (drilled_on (five_rounds n t degree) orders) 1 minds ∙ st.all ∙ omega arith;
+      degrees = st.degrees;
+      fresh = λ seat honest.
+          let first = st.fresh seat honest in
+          let e : 1 + (seat - 1) ≡ seat = omega (arith, honest.from) in (
+            drilled_on (five_rounds n t degree) orders (1 + (seat - 1)) first.0,
+            drilled_nth (five_rounds n t degree) orders minds 1 (seat - 1) first.0 first.1,
+            (ap (names orders) e ∙ st.unnamed seat honest.up, first.2),
+          );
+    }
+
+    -- who isn't down is in each mask, since nobody is cut
+    here : InMasks (five_rounds n t degree) 5 masks down
+    here = honest_in_masks (drilled_ways w) (drilled_is is) (five_rounds n t degree) masks (drilled_all (five_rounds n t degree) orders minds) down own begins
+        nobody allowed.1 (nobody_cut (five_rounds n t degree) 5 down)
+
+    -- who isn't down is honest in the play
+    pub honest_in : (j : ℕ) → 1 ≤ j → j ≤ n → down j ≡ false → HonestIn (phase_play w (five_rounds n t degree) down own orders minds masks) j
+    honest_in j from to up = let e : 0 + j ≡ j = omega arith in record { from = from; to = to; up = ap down e ∙ up }
+
+    -- with at most the bound down the play is as agreement asks
+    pub proper_phase : how_many n down ≤ t → ProperPlay (phase_play w (five_rounds n t degree) down own orders minds masks)
+    proper_phase few =
+        let same : how_many n (λ j. down (0 + j)) ≡ how_many n down = how_many_same n (λ j. down (0 + j)) down (λ k a b. let e : 0 + k ≡ k = omega arith in ap down e) in
+        proper (drilled_ways w) (drilled_is is) (five_rounds n t degree) masks (drilled_all (five_rounds n t degree) orders minds) down own begins here (omega (arith, same, few))
+
+    pub length-run : length (sync (drilled_ways w) (five_rounds n t degree) 1 masks (drilled_all (five_rounds n t degree) orders minds)) ≡ n
+    length-run =
+        length-sync (drilled_ways w) (five_rounds n t degree) 1 masks (drilled_all (five_rounds n t degree) orders minds)
+        ∙ length-numbered (drilled_on (five_rounds n t degree) orders) 1 minds ∙ st.all
+
+    -- the minds after the run end as the play defines
+    pub ends : EndsAs is (member_done (phase_play w (five_rounds n t degree) down own orders minds masks) own) down 1 (sync (drilled_ways w) (five_rounds n t degree) 1 masks (drilled_all (five_rounds n t degree) orders minds))
+    unfolding EndsAs
+    ends k lt up =
+        let s : Shape = five_rounds n t degree in
+        let ms : List (DrilledMind M) = drilled_all s orders minds in
+        let few : k < n = omega (arith, lt, length-run) in
+        let end = ends_done (drilled_ways w) (drilled_is is) s masks ms down own begins here (1 + k) (honest_in (1 + k) (omega arith) (omega (arith, few)) up) in
+        let e : 0 + (1 + k) - 1 ≡ k = omega arith in
+        let five : take 5 masks ≡ masks = take_all 5 masks (omega (arith, allowed.0)) in (
+          end.0,
+          subst (λ (z : ℕ × List ℕ). Nth z.0 end.0 (sync (drilled_ways w) s 1 z.1 ms)) (λ i. (e i, five i)) end.1,
+          end.2.1,
+        )
+
+-- ---- what is read off the minds in the end
+-- what is read off a mind that has come to the end that a play defines for its seat
+pub record Reads {M : Type 0} (is : M → Member → Type 0) (done : M → Type 0) (value : M → List Fp) (accepted : M → ℕ) (p : Play) (own : ℕ → List (List (List Fp))) (lanes : ℕ → List Fp) : Type 0 where
+  pub is_done : (j : ℕ) (m : M) → is m (member_done p own j) → done m
+  pub has : (j : ℕ) (m : M) → is m (member_done p own j) → value m ≡ lanes j
+  pub counts : (j : ℕ) (m : M) → is m (member_done p own j) → accepted m ≡ accepted_count p
 
 -- where fewer are down than there are members, someone isn't
 some_not : (f : ℕ → Bool) (n : ℕ) → how_many n f < n → (k : ℕ) × (1 ≤ k) × (k ≤ n) × (f k ≡ false)
@@ -173,136 +291,66 @@ some_up down n few =
     let e : r.0 ≡ 1 + (r.0 - 1) = omega (arith, r.1) in
     record { place = r.0 - 1; within = omega (arith, r.1, r.2); up = ap down (sym e) ∙ r.3 }
 
--- ---- the run
--- a drilled mind on a seat that no order names goes like the member inside
-abbrev goes_inside : DrilledMind Member → Member → Type 0
-goes_inside d c = (names d.orders d.seat ≡ false) × (d.inner ≡ c)
+-- ---- marks
+pub marks_right : (down : ℕ → Bool) (n j : ℕ) → 1 ≤ j → j ≤ n → marked (marks_of down n) j ≡ down j
+marks_right down n j from to = get_or-map-range_with_len down 1 n (j - 1) j false (omega (arith, from, to)) (omega (arith, from))
 
-undrilled_go : GoesLike (drilled_ways member_ways) member_ways goes_inside member_turn
-undrilled_go = record {
-  same_word = λ d c round speaks h. unnamed_speaks d.shape d.orders d.seat round d.second (member_word d.inner round) h.0 ∙ ap (λ (m : Member). member_word m round) h.1;
-  same_next = λ d c round heard speaks h. (h.0, ap (λ (m : Member). member_after_hear m round heard) h.1);
-}
+pub marked_count : (down : ℕ → Bool) (n : ℕ) → how_many n (marked (marks_of down n)) ≡ how_many n down
+marked_count down n = how_many_same n (marked (marks_of down n)) down (λ j from to. marks_right down n j from to)
 
-pub lawful_create : (n t : ℕ) → IsCommittee n t → Lawful (create_shape n t)
-lawful_create n t c = record {
-  receivers = (omega (arith, c.third, c.some_bad), c.most);
-  dealers = (omega (arith, c.third, c.some_bad), c.most);
-  some_bad = c.some_bad;
-  third = c.third;
-  degree = omega arith;
-  committees = inl (record { no_shift = refl; same = refl; checks = omega arith });
-}
+pub some_marked : (down at : ℕ → Bool) (n : ℕ) → ((j : ℕ) → 1 ≤ j → j ≤ n → at j ≡ down j) → SomeUp down 1 n → SomeUp at 1 n
+some_marked down at n agree s = record { place = s.place; within = s.within; up = agree (1 + s.place) (omega arith) (omega (arith, s.within)) ∙ s.up }
 
--- the premises of the law on runs
-begins : (n t : ℕ) → IsCommittee n t → (orders : List Order) (seeds : List (List ℕ)) → length seeds ≡ n → (masks : List ℕ) → AreMasks (create_shape n t) orders (dealt_by t seeds) masks →
-    BeginSharing (drilled_ways member_ways) goes_inside (create_shape n t) masks (drilled_from (create_shape n t) orders 1 (dealt_by t seeds)) (names orders) (grids_on (dealt_by t seeds))
-begins n t c orders seeds all masks allowed = record {
-  goes = undrilled_go;
-  setting = lawful_create n t c;
-  rounds = omega (arith, allowed.0);
-  seated = length-drilled (create_shape n t) orders 1 (dealt_by t seeds) ∙ length-dealt t seeds ∙ all ∙ omega arith;
-  degrees = λ seat l up. dealt_degree t seeds (seat - 1) l (omega (arith, c.third, c.most));
-  fresh = λ seat honest.
-      let e : 1 + (seat - 1) ≡ seat = omega (arith, honest.from) in (
-        drilled_at (create_shape n t) orders (1 + (seat - 1)) (get_or (dealt_by t seeds) (seat - 1) None),
-        start_nth (create_shape n t) orders (dealt_by t seeds) 1 (seat - 1) (omega (arith, honest.from, honest.to, all, length-dealt t seeds)),
-        (ap (names orders) e ∙ honest.up, ap (λ (k : ℕ). member_at (create_shape n t) k (grids_on (dealt_by t seeds) seat)) e),
-      );
-}
+pub range_same : {A : Type 0} (f g : ℕ → A) (a n : ℕ) → ((j : ℕ) → a ≤ j → j < a + n → f j ≡ g j) → map f (range_with_len a n) ≡ map g (range_with_len a n)
+range_same f g a zero agree = refl
+range_same f g a (suc n) agree = ap₂ (λ x xs. x ∷ xs) (agree a (omega arith) (omega arith)) (range_same f g (a + 1) n (λ j from to. agree j (omega (arith, from)) (omega (arith, to))))
 
--- who isn't drilled is in each mask, since nobody is cut
-here : (n t : ℕ) → IsCommittee n t → (orders : List Order) (seeds : List (List ℕ)) → length seeds ≡ n → (masks : List ℕ) → AreMasks (create_shape n t) orders (dealt_by t seeds) masks → InMasks (create_shape n t) 5 masks (names orders)
-here n t c orders seeds all masks allowed =
-    honest_in_masks (drilled_ways member_ways) goes_inside (create_shape n t) masks (drilled_from (create_shape n t) orders 1 (dealt_by t seeds)) (names orders) (grids_on (dealt_by t seeds)) (begins n t c orders seeds all masks allowed)
-    nobody allowed.1 (nobody_cut (create_shape n t) 5 (names orders))
+-- ---- a phase
+module _ {M : Type 0} (w : Ways M) (is : M → Member → Type 0) (n t degree : ℕ) (orders : List Order) (down : ℕ → Bool) (own : ℕ → List (List (List Fp))) (minds : List M) (st : Starts w is n t degree orders down own minds)
+    (done : M → Type 0) (value : M → List Fp) (accepted : M → ℕ) (lanes : Play → ℕ → List Fp)
+    (reads : (masks : List ℕ) → Reads is done value accepted (phase_play w (five_rounds n t degree) down own orders minds masks) own (lanes (phase_play w (five_rounds n t degree) down own orders minds masks))) where
+  agrees : (masks : List ℕ) → AreMasks w (five_rounds n t degree) orders minds masks → (k : ℕ) → k < length (sync (drilled_ways w) (five_rounds n t degree) 1 masks (drilled_all (five_rounds n t degree) orders minds)) →
+      marked (marks_of down n) (1 + k) ≡ down (1 + k)
+  agrees masks allowed k lt =
+      let all = length-run w is n t degree orders down own minds st masks allowed in
+      marks_right down n (1 + k) (omega arith) (omega (arith, lt, all))
 
--- who isn't drilled is honest in the play
-pub honest_in : (n t : ℕ) (orders : List Order) (seeds : List (List ℕ)) (masks : List ℕ) (j : ℕ) → 1 ≤ j → j ≤ n → names orders j ≡ false → HonestIn (play_created n t orders seeds masks) j
-honest_in n t orders seeds masks j from to up = let e : 0 + j ≡ j = omega arith in record { from = from; to = to; up = ap (names orders) e ∙ up }
+  ends_at : (masks : List ℕ) (allowed : AreMasks w (five_rounds n t degree) orders minds masks) →
+      EndsAs is (member_done (phase_play w (five_rounds n t degree) down own orders minds masks) own) (marked (marks_of down n)) 1 (sync (drilled_ways w) (five_rounds n t degree) 1 masks (drilled_all (five_rounds n t degree) orders minds))
+  ends_at masks allowed =
+      ends_marked is (member_done (phase_play w (five_rounds n t degree) down own orders minds masks) own) down (marked (marks_of down n)) 1 (sync (drilled_ways w) (five_rounds n t degree) 1 masks (drilled_all (five_rounds n t degree) orders minds))
+      (agrees masks allowed) (ends w is n t degree orders down own minds st masks allowed)
 
--- the minds after the run end as the play defines
-pub ends : (n t : ℕ) → IsCommittee n t → (orders : List Order) (seeds : List (List ℕ)) → length seeds ≡ n → (masks : List ℕ) → AreMasks (create_shape n t) orders (dealt_by t seeds) masks →
-    EndsAs (play_created n t orders seeds masks) (names orders) 1 (sync (drilled_ways member_ways) (create_shape n t) 1 masks (drilled_from (create_shape n t) orders 1 (dealt_by t seeds)))
-unfolding EndsAs
-ends n t c orders seeds all masks allowed k lt up =
-    let s : Shape = create_shape n t in
-    let ms : List (DrilledMind Member) = drilled_from s orders 1 (dealt_by t seeds) in
-    let few : k < n = omega (arith, lt, length-sync (drilled_ways member_ways) s 1 masks ms, length-drilled s orders 1 (dealt_by t seeds), length-dealt t seeds, all) in
-    let end = ends_done (drilled_ways member_ways) goes_inside s masks ms (names orders) (grids_on (dealt_by t seeds)) (begins n t c orders seeds all masks allowed) (here n t c orders seeds all masks allowed) (1 + k)
-    (honest_in n t orders seeds masks (1 + k) (omega arith) (omega (arith, few)) up) in
-    let e : 0 + (1 + k) - 1 ≡ k = omega arith in
-    let five : take 5 masks ≡ masks = take_all 5 masks (omega (arith, allowed.0)) in (
-      end.0,
-      subst (λ (z : ℕ × List ℕ). Nth z.0 end.0 (sync (drilled_ways member_ways) s 1 z.1 ms)) (λ i. (e i, five i)) end.1,
-      record { shape = ap (λ (m : Member). m.shape) end.2.1; stage = ap (λ (m : Member). m.stage) end.2.1 },
-    )
+  pub end_done : EndDone w done (five_rounds n t degree) (marked (marks_of down n)) (drilled_all (five_rounds n t degree) orders minds)
+  end_done masks all allowed =
+      all_done is (member_done (phase_play w (five_rounds n t degree) down own orders minds masks) own) done (reads masks).is_done (marked (marks_of down n)) 1
+      (sync (drilled_ways w) (five_rounds n t degree) 1 masks (drilled_all (five_rounds n t degree) orders minds)) (ends_at masks (all, allowed))
 
-pub length-run : (n t : ℕ) (orders : List Order) (seeds : List (List ℕ)) → length seeds ≡ n → (masks : List ℕ) →
-    length (sync (drilled_ways member_ways) (create_shape n t) 1 masks (drilled_from (create_shape n t) orders 1 (dealt_by t seeds))) ≡ n
-length-run n t orders seeds all masks = length-sync (drilled_ways member_ways) (create_shape n t) 1 masks (drilled_from (create_shape n t) orders 1 (dealt_by t seeds)) ∙ length-drilled (create_shape n t) orders 1 (dealt_by t seeds) ∙ length-dealt t seeds ∙ all
+  module _ (phase : Phase) (off : IsReadOff w value accepted (five_rounds n t degree) (marked (marks_of down n)) (drilled_all (five_rounds n t degree) orders minds) phase) where
+    pub phase_masks : AreMasks w (five_rounds n t degree) orders minds phase.masks
+    phase_masks = (off.all, off.allowed)
 
--- with at most the bound drilled the play is as agreement asks
-pub proper_create : (n t : ℕ) → IsCommittee n t → (orders : List Order) (seeds : List (List ℕ)) → length seeds ≡ n → (masks : List ℕ) → AreMasks (create_shape n t) orders (dealt_by t seeds) masks →
-    named_among orders 0 n ≤ t → ProperPlay (play_created n t orders seeds masks)
-proper_create n t c orders seeds all masks allowed few =
-    proper (drilled_ways member_ways) goes_inside (create_shape n t) masks (drilled_from (create_shape n t) orders 1 (dealt_by t seeds)) (names orders) (grids_on (dealt_by t seeds)) (begins n t c orders seeds all masks allowed) (here n t c orders seeds all masks allowed) few
+    abbrev play : Play
+    play = phase_play w (five_rounds n t degree) down own orders minds phase.masks
 
-pub few_named : (orders : List Order) (n : ℕ) → how_many n (names orders) ≡ named_among orders 0 n
-few_named orders n = how_many_same n (names orders) (λ j. names orders (0 + j)) (λ k a b. let e : k ≡ 0 + k = omega arith in ap (names orders) e)
+    abbrev after : List (DrilledMind M)
+    after = sync (drilled_ways w) (five_rounds n t degree) 1 phase.masks (drilled_all (five_rounds n t degree) orders minds)
 
--- ---- a run that was driven
--- the setting, the minds before and after, and the masks of a run of this committee
-pub record Ran (n t : ℕ) (orders : List Order) (seeds : List (List ℕ)) (s : Shape) (masks : List ℕ) (before after : List (DrilledMind Member)) : Type 0 where
-  pub setting : s ≡ create_shape n t
-  pub begun : before ≡ drilled_from (create_shape n t) orders 1 (dealt_by t seeds)
-  pub run : after ≡ sync (drilled_ways member_ways) s 1 masks before
-  pub rounds_all : length masks ≡ rounds s
-  pub allowed : AllAllowed (drilled_ways member_ways) s 1 (all_seats s) nobody masks before
+    phase_shares : phase.shares.items ≡ shares_given down (lanes play) n
+    phase_shares =
+        off.shares
+        ∙ shares_same is (member_done play own) value (lanes play) (reads phase.masks).has (marked (marks_of down n)) 1 after (ends_at phase.masks phase_masks)
+        ∙ ap (λ (k : ℕ). map (λ j. unless_down (marked (marks_of down n) j) (lanes play j)) (range_with_len 1 k)) (length-run w is n t degree orders down own minds st phase.masks phase_masks)
+        ∙ range_same (λ j. unless_down (marked (marks_of down n) j) (lanes play j)) (λ j. unless_down (down j) (lanes play j)) 1 n
+        (λ j from to. ap (λ (b : Bool). unless_down b (lanes play j)) (marks_right down n j from (omega (arith, to))))
 
-pub all_seated : (n t : ℕ) (orders : List Order) (seeds : List (List ℕ)) (s : Shape) (minds : List (DrilledMind Member)) → s ≡ create_shape n t → minds ≡ drilled_from (create_shape n t) orders 1 (dealt_by t seeds) → length seeds ≡ n → length minds ≡ seats s
-all_seated n t orders seeds s minds setting begun all =
-    let e : n ≡ 0 + n = omega arith in
-    ap length begun ∙ length-drilled (create_shape n t) orders 1 (dealt_by t seeds) ∙ length-dealt t seeds ∙ all ∙ e ∙ ap seats (sym setting)
+    phase_accepted : how_many n down ≤ t → phase.accepted ≡ accepted_count play
+    phase_accepted few =
+        let up : SomeUp down 1 n = some_up down n (omega (arith, few, st.committee.third)) in
+        let there : SomeUp (marked (marks_of down n)) 1 n = some_marked down (marked (marks_of down n)) n (marks_right down n) up in
+        off.accepted
+        ∙ accepted_same is (member_done play own) accepted (accepted_count play) (reads phase.masks).counts (marked (marks_of down n)) 1 after (ends_at phase.masks phase_masks)
+        (subst (SomeUp (marked (marks_of down n)) 1) (sym (length-run w is n t degree orders down own minds st phase.masks phase_masks)) there)
 
-pub all_fresh : (n t : ℕ) (orders : List Order) (seeds : List (List ℕ)) (minds : List (DrilledMind Member)) → minds ≡ drilled_from (create_shape n t) orders 1 (dealt_by t seeds) →
-    Hearing (λ (d : DrilledMind Member) (round : ℕ). IsTurn round d.inner.stage) 1 minds
-all_fresh n t orders seeds minds begun = subst (λ (ms : List (DrilledMind Member)). Hearing (λ (d : DrilledMind Member) (round : ℕ). IsTurn round d.inner.stage) 1 ms) (sym begun) (fresh_from (create_shape n t) orders 1 (dealt_by t seeds))
-
-pub all_made : (n t : ℕ) (orders : List Order) (seeds : List (List ℕ)) (s : Shape) (minds : List (DrilledMind Member)) → s ≡ create_shape n t → minds ≡ drilled_from (create_shape n t) orders 1 (dealt_by t seeds) →
-    Seated (λ (d : DrilledMind Member) (t : Shape) (k : ℕ). (d.shape ≡ t) × (d.seat ≡ k) × MadeFor d.inner t k) s 1 minds
-all_made n t orders seeds s minds setting begun =
-    subst (λ (z : Shape × List (DrilledMind Member)). Seated (λ (d : DrilledMind Member) (t : Shape) (k : ℕ). (d.shape ≡ t) × (d.seat ≡ k) × MadeFor d.inner t k) z.0 1 z.1)
-    (λ i. (sym setting i, sym begun i)) (seated_from (create_shape n t) orders 1 (dealt_by t seeds) refl)
-
-module _ (n t : ℕ) (c : IsCommittee n t) (orders : List Order) (seeds : List (List ℕ)) (all : length seeds ≡ n) (s : Shape) (masks : List ℕ) (before after : List (DrilledMind Member)) (ran : Ran n t orders seeds s masks before after) where
-  pub ran_masks : AreMasks (create_shape n t) orders (dealt_by t seeds) masks
-  ran_masks = (
-    ran.rounds_all ∙ ap rounds ran.setting,
-    subst (λ (z : Shape × List (DrilledMind Member)). AllAllowed (drilled_ways member_ways) z.0 1 (all_seats z.0) nobody masks z.1) (λ i. (ran.setting i, ran.begun i)) ran.allowed,
-  )
-
-  after_is : after ≡ sync (drilled_ways member_ways) (create_shape n t) 1 masks (drilled_from (create_shape n t) orders 1 (dealt_by t seeds))
-  after_is = ran.run ∙ ap₂ (λ (z : Shape) (ms : List (DrilledMind Member)). sync (drilled_ways member_ways) z 1 masks ms) ran.setting ran.begun
-
-  ran_all : length after ≡ n
-  ran_all = ap length after_is ∙ length-run n t orders seeds all masks
-
-  pub ran_few : length after ≤ 15
-  ran_few = omega (arith, ran_all, c.most)
-
-  ran_ends : EndsAs (play_created n t orders seeds masks) (names orders) 1 after
-  ran_ends = subst (EndsAs (play_created n t orders seeds masks) (names orders) 1) (sym after_is) (ends n t c orders seeds all masks ran_masks)
-
-  pub ran_done : AllDone (names orders) 1 after
-  ran_done = all_done (play_created n t orders seeds masks) (names orders) 1 after ran_ends
-
-  pub ran_shares : shares_in (names orders) 1 after ≡ shares_created (play_created n t orders seeds masks) n
-  ran_shares =
-      shares_same (play_created n t orders seeds masks) (names orders) 1 after ran_ends
-      ∙ ap (λ k. shares_created (play_created n t orders seeds masks) k) ran_all
-
-  pub ran_accepted : named_among orders 0 n ≤ t → accepted_first (names orders) 1 after ≡ accepted_count (play_created n t orders seeds masks)
-  ran_accepted few =
-      let up : SomeUp (names orders) 1 n = some_up (names orders) n (omega (arith, few_named orders n, few, c.third)) in
-      accepted_same (play_created n t orders seeds masks) (names orders) 1 after ran_ends (subst (SomeUp (names orders) 1) (sym ran_all) up)
+    pub is_phase : how_many n down ≤ t → IsPhase n (phase_play w (five_rounds n t degree) down own orders minds phase.masks) (lanes (phase_play w (five_rounds n t degree) down own orders minds phase.masks)) phase
+    is_phase few = record { accepted = phase_accepted few; shares = phase_shares }

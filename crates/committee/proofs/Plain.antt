@@ -15,7 +15,8 @@ use Rattle.members.specs.Laws.{NobodyDown}
 use Rattle.members.proofs.Sums.{plain_shares}
 use Rattle.drillbook.specs.Orders.{names}
 use Rattle.talk.specs.Shape.{create_shape}
-use Rattle.committee.specs.Links.{first_link}
+use Rattle.committee.specs.Links.{first_link, first_now}
+use Rattle.committee.specs.Drill.{drill_of}
 use Rattle.keyroom.specs.declared.status.Status.{Status}
 use Rattle.keyroom.specs.Causes.{cause_of}
 use Rattle.keyroom.specs.Words.{Create, IsInRange, ReadsAs}
@@ -23,14 +24,17 @@ use Rattle.keyroom.specs.Names.{now_name}
 use Rattle.keyroom.specs.Outcome.{Outcome}
 use Rattle.keyroom.specs.Steps.{free_of}
 use Rattle.keyroom.proofs.Working.{and_then_ok}
-use Rattle.committee.specs.Create.{AreMasks, Creates, dealt_by, drill_of, play_created, create_changes, first_now, grids_on}
+use Rattle.committee.specs.Create.{AreCreateMasks, Creates, dealt_by, play_created, create_changes, grids_on}
 use Rattle.committee.specs.Plain.{plain_share, HeldPlain}
 use Rattle.committee.specs.Answer.{Does}
 use Rattle.committee.specs.Meaning.{Given, Means, AskForSeeds}
 use Rattle.committee.specs.Agreement.{MadeAll}
-use Rattle.committee.proofs.Agreement.{lane_at, put_file, held_was_put}
-use Rattle.committee.proofs.Creating.{WasCreated, first_tied, none_named, committee, was_created}
-use Rattle.committee.proofs.Phases.{proper_create}
+use Rattle.committee.proofs.Agreement.{lane_at, put_created, held_created}
+use Rattle.committee.proofs.Committees.{committee_of}
+use Rattle.committee.proofs.Drills.{none_named}
+use Rattle.committee.proofs.Creating.{WasCreated, was_created}
+use Rattle.committee.proofs.Created.{proper_create, few_named}
+use Rattle.committee.proofs.Links.{first_is_now}
 use Rattle.committee.proofs.OneMeaning.{meant_of}
 use Rattle.committee.proofs.Doing.{made_all}
 
@@ -45,7 +49,7 @@ sum_here : (n t : ℕ) (seeds : List (List ℕ)) (lane j : ℕ) → lane < 5 →
 sum_here n t seeds lane j lt =
     ap (sum_below n) (λ z i. grid_at (get_or (grids_on (dealt_by t seeds) (dealer_here i lane lt z)) (lane_here i lane lt z) []) zeroₚ (fe j))
 
-module _ (n t : ℕ) (c : IsCommittee n t) (seeds : List (List ℕ)) (all : length seeds ≡ n) (masks : List ℕ) (allowed : AreMasks (create_shape n t) [] (dealt_by t seeds) masks) where
+module _ (n t : ℕ) (c : IsCommittee n t) (seeds : List (List ℕ)) (all : length seeds ≡ n) (masks : List ℕ) (allowed : AreCreateMasks n t [] seeds masks) where
   nobody_down : NobodyDown (play_created n t [] seeds masks)
   nobody_down = record { dealers = λ i from to. refl; receivers = λ j from to. refl }
 
@@ -61,13 +65,14 @@ module _ (name : List ℕ) (n t : ℕ) (coming : List (List ℕ)) (masks : List 
   held_plain : Creates name n t (Some coming) masks [] outcome → (link : Option Link) → HeldPlain (first_now name n t link) (take n coming) (after outcome.changes held)
   held_plain c link =
       let p = play_created n t [] c.0 masks in
+      let is = first_is_now name n t (names []) range.0 range.1 range.2 (omega (arith, few_named [] n, none_named n 0)) in
       let first : take n coming ≡ c.0 = ap (take n) c.2.1 ∙ take_first c.0 c.2.0 n c.1 in
       subst (λ (o : Outcome). HeldPlain (first_now name n t link) (take n coming) (after o.changes held)) (sym c.4)
       (subst (λ (seeds : List (List ℕ)). HeldPlain (first_now name n t link) seeds (after (create_changes (first_now name n t (first_link name n t (names []))) p) held)) (sym first)
       (λ lane j file lt from to valid.
-      let made = put_file (first_now name n t (first_link name n t (names []))) p range.0 range.1 range.2 refl (first_tied name n t (names [])) link j file (held_was_put (first_now name n t (first_link name n t (names []))) p range.0 range.1 range.2 refl (first_tied name n t (names [])) link held j file from to valid) in
-      ap (λ (xs : List Fp). get_or xs lane zeroₚ) made.lanes ∙ lane_at p j lane lt
-      ∙ created_plain n t (committee n t range.1 range.2) c.0 c.1 masks c.3 lane j lt from to))
+      let made = put_created (first_now name n t (first_link name n t (names []))) p is link j file (held_created (first_now name n t (first_link name n t (names []))) p is link held j file from to valid) in
+      ap (λ (xs : List Fp). get_or xs lane zeroₚ) made.has ∙ lane_at p j lane lt
+      ∙ created_plain n t (committee_of n t range.1 range.2) c.0 c.1 masks c.3 lane j lt from to))
 
   was_plain : WasCreated name n t None held (Some coming) masks outcome → (link : Option Link) → HeldPlain (first_now name n t link) (take n coming) (after outcome.changes held)
   was_plain was link =

@@ -10,7 +10,7 @@ use Rattle.keyroom.specs.declared.status.Status.TheVariants.{NoKey}
 use Rattle.keyroom.specs.declared.document.Direction.{Direction}
 use Rattle.keyroom.specs.declared.document.Direction.TheVariants.{Sealing, Opening}
 use Rattle.keyroom.specs.Causes.{Cause, Done, Refusal, Shelf, Entropy, Sink, Memory, cause_of}
-use Rattle.keyroom.specs.Outcome.{Outcome, refused, done}
+use Rattle.keyroom.specs.Outcome.{Outcome, done}
 use Rattle.keyroom.specs.Words.{Command, Recover, Check, ReadsAs, IsUsage}
 use Rattle.keyroom.specs.Steps.{files_of}
 use Rattle.keyroom.specs.Decoding.{HonestFiles}
@@ -22,7 +22,7 @@ use Rattle.keyroom.specs.Texts.{recover_text, check_text}
 use Rattle.keyroom.specs.Answer.{Carries}
 use Rattle.keyroom.proofs.Spelling.{same_command}
 use Rattle.keyroom.proofs.Working.{work_has_key}
-use Rattle.committee.specs.Answer.{World, CarriedOut, DoesBy, Does}
+use Rattle.committee.specs.Answer.{refused_after, World, CarriedOut, DoesBy, Does}
 use Rattle.committee.specs.Meaning.{Given, Means, TakesSeeds, AskForSeeds}
 use Rattle.committee.specs.Recovery.{EndsInText, AsksNone, Honestly, document_command}
 use Rattle.committee.proofs.Doing.{does_weaker}
@@ -34,12 +34,12 @@ module _ (means : Outcome → Type 0) (text : List ℕ) (one : (o : Outcome) →
   carried_text cause o c =
       subst (λ (x : Outcome). Carries x.changes x.text before.held now.held before.told now.told cause) (one o c.meant) c.carried
 
-  no_refusal : {A : Type 0} (status : Status) → cause_of status ≡ Refusal → means (refused status) → A
-  no_refusal status is h = let same : status ≡ answer.Done = ap (λ (o : Outcome). o.status) (one (refused status) h) in absurd (let e = sym is ∙ ap cause_of same in cc)
+  no_refusal : {A : Type 0} (status : Status) (taken : ℕ) → cause_of status ≡ Refusal → means (refused_after taken status) → A
+  no_refusal status taken is h = let same : status ≡ answer.Done = ap (λ (o : Outcome). o.status) (one (refused_after taken status) h) in absurd (let e = sym is ∙ ap cause_of same in cc)
 
   ends_by : (status : Status) (cause : Cause) → cause_of status ≡ cause → DoesBy means asks before now status cause → EndsInText text before.told now.told cause
   ends_by status Done is (o, c) = (carried_text Done o c).1
-  ends_by status Refusal is d = no_refusal status is d.0
+  ends_by status Refusal is d = no_refusal status d.0 is d.1
   ends_by status Shelf is (inl same) = ap (λ (w : World). w.told) same
   ends_by status Shelf is (inr (o, c)) = (carried_text Shelf o c).1
   ends_by status Entropy is d = absurd (never d.1.0 d.1.1)
@@ -59,10 +59,10 @@ documents_take_none Sealing name source target held count takes = takes
 documents_take_none Opening name source target held count takes = takes
 
 -- ---- sealing and opening under a key that there is
-keyless_end : (direction : Direction) (name source target : List ℕ) (polys : List Polynomial) (held : Held) (lane : ℕ) (end : Result Work Status) → WorksBy direction (KeyIsOf polys) name source target held end →
-    refused (NoKey lane) ≡ document_outcome direction name end → ⊥
-keyless_end direction name source target polys held lane (Ok work) works is = let e : NoKey lane ≡ answer.Done = ap (λ (o : Outcome). o.status) is in cc
-keyless_end direction name source target polys held lane (Err s) works is =
+keyless_end : (direction : Direction) (name source target : List ℕ) (polys : List Polynomial) (held : Held) (lane taken : ℕ) (end : Result Work Status) → WorksBy direction (KeyIsOf polys) name source target held end →
+    refused_after taken (NoKey lane) ≡ document_outcome direction name end → ⊥
+keyless_end direction name source target polys held lane taken (Ok work) works is = let e : NoKey lane ≡ answer.Done = ap (λ (o : Outcome). o.status) is in cc
+keyless_end direction name source target polys held lane taken (Err s) works is =
     let e : s ≡ NoKey lane = sym (ap (λ (o : Outcome). o.status) is) in
     work_has_key direction polys name source target held lane (subst (λ t. WorksBy direction (KeyIsOf polys) name source target held (Err t)) e works)
 
@@ -70,7 +70,7 @@ document_keyed : (direction : Direction) (name source target : List ℕ) (polys 
     (lane : ℕ) → status ≢ NoKey lane
 document_keyed direction name source target polys held before now status does lane e =
     let d = subst (λ s. Does (DocumentCommandBy direction (KeyIsOf polys) name source target held) AsksNone before now s) e does in
-    keyless_end direction name source target polys held lane d.0.0 d.0.1 d.0.2
+    keyless_end direction name source target polys held lane d.0 d.1.0 d.1.1 d.1.2
 
 -- ---- the clauses of the top call
 module _ (words : List (List ℕ)) (coming comes : Option (List (List ℕ))) (told tells : Option (List ℕ)) (status : Status) (old : Held) (new : Option Held) where

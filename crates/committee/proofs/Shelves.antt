@@ -125,3 +125,58 @@ among_filter test x (y ∷ ys) h =
       | inl here ↦ (inl here.0, here.1)
       | inr later ↦ let r = among_filter test x ys later in (inr r.0, r.1)
     ]
+
+filter_into : {A : Type 0} (b : Bool) (x y : A) (rest : List A) → (y ≡ x → b ≡ true) → (y ≡ x) ⊎ Among x rest → Among x (cond b (y ∷ rest) rest)
+filter_into true x y rest test h = h
+filter_into false x y rest test (inl same) = absurd (true_not_false (sym (test same)))
+filter_into false x y rest test (inr h) = h
+
+pub among_into_filter : {A : Type 0} (test : A → Bool) (x : A) (xs : List A) → test x ≡ true → Among x xs → Among x (filter test xs)
+among_into_filter test x [] e h = h
+among_into_filter test x (y ∷ ys) e (inl same) = filter_into (test y) x y (filter test ys) (λ eq. ap test eq ∙ e) (inl same)
+among_into_filter test x (y ∷ ys) e (inr h) = filter_into (test y) x y (filter test ys) (λ eq. ap test eq ∙ e) (inr (among_into_filter test x ys e h))
+
+-- ---- what stays
+put_keeps : (b : Bool) (bytes : List ℕ) (o : Option (List ℕ)) (x : List ℕ) → (b ≡ true → bytes ≡ x) → o ≡ Some x → cond b (Some bytes) o ≡ Some x
+put_keeps true bytes o x same e = ap (λ (y : List ℕ). Some y) (same refl)
+put_keeps false bytes o x same e = e
+
+-- under the put of a name that is another one, or puts the same
+put_stays : (name bytes : List ℕ) (held : Held) (q x : List ℕ) → (q ≡ name → bytes ≡ x) → get held q ≡ Some x → get (insert held name bytes) q ≡ Some x
+put_stays name bytes held q x same e =
+    get-insert nat_list_cmp_total held name bytes q ∙ put_keeps (eq_by_cmp (slice_cmp nat_cmp) q name) bytes (get held q) x (λ is. same (same_name q name is)) e
+
+-- what is put is there
+pub put_is_there : (name bytes : List ℕ) (held : Held) → get (insert held name bytes) name ≡ Some bytes
+put_is_there name bytes held = get-insert nat_list_cmp_total held name bytes name ∙ cond_first _ (Some bytes) (get held name) (own_name name)
+
+-- under puts
+puts_stay : (f b : ℕ → List ℕ) (js : List ℕ) (held : Held) (q x : List ℕ) → ((j : ℕ) → Among j js → q ≡ f j → b j ≡ x) → get held q ≡ Some x → get (after (map (λ i. Put (f i) (b i)) js) held) q ≡ Some x
+puts_stay f b [] held q x same e = e
+puts_stay f b (j ∷ js) held q x same e =
+    puts_stay f b js (insert held (f j) (b j)) q x (λ k among is. same k (inr among) is) (put_stays (f j) (b j) held q x (λ is. same j (inl refl) is) e)
+
+pub puts_are_there : (f b : ℕ → List ℕ) (js : List ℕ) (held : Held) (j : ℕ) → Among j js → ((k : ℕ) → Among k js → f j ≡ f k → b k ≡ b j) → get (after (map (λ i. Put (f i) (b i)) js) held) (f j) ≡ Some (b j)
+puts_are_there f b [] held j h same = absurd h
+puts_are_there f b (k ∷ js) held j (inl is) same =
+    puts_stay f b js (insert held (f k) (b k)) (f j) (b j) (λ i among e. same i (inr among) e)
+    (ap (get (insert held (f k) (b k))) (ap f (sym is)) ∙ put_is_there (f k) (b k) held ∙ ap (λ (i : ℕ). Some (b i)) is)
+puts_are_there f b (k ∷ js) held j (inr h) same = puts_are_there f b js (insert held (f k) (b k)) j h (λ i among e. same i (inr among) e)
+
+-- ---- names that no change touches
+abbrev pub change_name : Change → List ℕ
+change_name (Put name bytes) = name
+change_name (Remove name) = name
+
+other_cases : (b : Bool) (x o : Option (List ℕ)) → (b ≡ true → ⊥) → cond b x o ≡ o
+other_cases true x o apart = absurd (apart refl)
+other_cases false x o apart = refl
+
+pub untouched : (changes : List Change) (held : Held) (q : List ℕ) → ((c : Change) → Among c changes → q ≡ change_name c → ⊥) → get (after changes held) q ≡ get held q
+untouched [] held q apart = refl
+untouched (Put name bytes ∷ rest) held q apart =
+    untouched rest (insert held name bytes) q (λ c among. apart c (inr among))
+    ∙ get-insert nat_list_cmp_total held name bytes q ∙ other_cases (eq_by_cmp (slice_cmp nat_cmp) q name) (Some bytes) (get held q) (λ is. apart (Put name bytes) (inl refl) (same_name q name is))
+untouched (Remove name ∷ rest) held q apart =
+    untouched rest (remove held name) q (λ c among. apart c (inr among))
+    ∙ get-remove nat_list_cmp_total held name q ∙ other_cases (eq_by_cmp (slice_cmp nat_cmp) q name) None (get held q) (λ is. apart (Remove name) (inl refl) (same_name q name is))

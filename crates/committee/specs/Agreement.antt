@@ -11,7 +11,8 @@ use Rattle.keyroom.specs.Names.{share_name}
 use Rattle.keyroom.specs.Words.{Create, IsInRange}
 use Rattle.keyroom.specs.Outcome.{Outcome}
 use Rattle.keyroom.specs.Steps.{IsShareOf, HasShare}
-use Rattle.committee.specs.Create.{first_now, MeansCreate}
+use Rattle.committee.specs.Links.{first_now}
+use Rattle.committee.specs.Create.{MeansCreate}
 
 -- x is one of the items
 abbrev pub Among : {A : Type 0} → A → List A → Type 0

@@ -3,7 +3,7 @@ use Rattle.std.specs.Prelude.{◌≡◌, ◌≢◌, ◌≤◌, ℕ}
 use Rattle.shelf.specs.Causes.{Rose}
 use Rattle.keyroom.specs.declared.status.Status.{Status}
 use Rattle.keyroom.specs.declared.status.Status.TheVariants.{Usage}
-use Rattle.keyroom.specs.Causes.{Cause, Done, Shelf, Entropy, Sink, Memory, cause_of}
+use Rattle.keyroom.specs.Causes.{Cause, Done, Refusal, Shelf, Entropy, Sink, Memory, cause_of}
 
 -- how often each object has failed
 pub record Counts : Type 0 where
@@ -40,3 +40,26 @@ IsOfEntropy cause = ⊥
 pub record IsFromEntropy (before now : ℕ) (status : Status) : Type 0 where
   pub entropy : cause_of status ≡ Entropy → Rose before now
   pub by : IsOfEntropy (cause_of status)
+
+-- work on what was found and drawn, which may refuse
+abbrev pub IsOfWork : Cause → Type 0
+IsOfWork Refusal = Unit {0}
+IsOfWork Memory = Unit {0}
+IsOfWork cause = ⊥
+
+-- what a step may refuse with that only works on these
+pub record IsFromWork (status : Status) : Type 0 where
+  pub by : IsOfWork (cause_of status)
+  pub read : status ≢ Usage
+
+-- the same behind a step that takes seeds
+abbrev pub IsOfSeeds : Cause → Type 0
+IsOfSeeds Refusal = Unit {0}
+IsOfSeeds Entropy = Unit {0}
+IsOfSeeds Memory = Unit {0}
+IsOfSeeds cause = ⊥
+
+pub record IsFromSeeds (before now : ℕ) (status : Status) : Type 0 where
+  pub entropy : cause_of status ≡ Entropy → Rose before now
+  pub by : IsOfSeeds (cause_of status)
+  pub read : status ≢ Usage

@@ -5,12 +5,15 @@ use Rattle.drillbook.specs.declared.order.Order.{Order}
 use Rattle.talk.specs.Shape.{create_shape}
 use Rattle.keyroom.specs.declared.status.Status.TheVariants.{Usage}
 use Rattle.keyroom.specs.declared.document.Direction.TheVariants.{Sealing, Opening}
-use Rattle.keyroom.specs.Words.{Command, Create, Recover, Check, Seal, Open, ReadsAs, IsUsage}
+use Rattle.keyroom.specs.Words.{Command, Create, Refresh, Move, Recover, Check, Seal, Open, ReadsAs, IsUsage}
 use Rattle.keyroom.specs.Outcome.{Outcome, refused}
 use Rattle.keyroom.specs.Recover.{MeansRecover}
 use Rattle.keyroom.specs.Check.{MeansCheck}
 use Rattle.keyroom.specs.Document.{MeansDocument}
 use Rattle.committee.specs.Create.{create_asked, MeansCreate}
+use Rattle.committee.specs.Standing.{Standing, seeds_for}
+use Rattle.committee.specs.Refresh.{refresh_asked, MeansRefresh}
+use Rattle.committee.specs.Move.{move_asked, MeansMove}
 
 -- what a command is given: what the shelf holds, and the seeds to come, where they are told
 pub record Given : Type 0 where
@@ -24,6 +27,8 @@ of_phase masks phase = get_or masks phase []
 -- What a command means under the masks of the rounds of its phases; a command without a phase is the same under all masks.
 abbrev pub MeansCommand : Command → Given → List (List ℕ) → Outcome → Type 0
 MeansCommand (Create name n t drill) given masks = MeansCreate name n t drill given.held given.coming (of_phase masks 0)
+MeansCommand (Refresh name drill) given masks = MeansRefresh name drill given.held given.coming (of_phase masks 0)
+MeansCommand (Move name m u drill) given masks = MeansMove name m u drill given.held given.coming (of_phase masks 0)
 MeansCommand (Recover name) given masks = MeansRecover name given.held
 MeansCommand (Check name) given masks = MeansCheck name given.held
 MeansCommand (Seal name doc target) given masks = MeansDocument Sealing name doc target given.held
@@ -44,9 +49,12 @@ abbrev pub Means : List (List ℕ) → Given → Outcome → Type 0
 Means words given outcome = (masks : List (List ℕ)) × MeansUnder masks words given outcome
 
 -- A command comes to the step that takes seeds, and takes so many there: a create whose now file isn't held, and whose
--- drill, if one is named, is there and is read, takes one for each member.
+-- drill, if one is named, is there and is read, takes one for each member; a refresh or a move that may go on takes
+-- one for each valid share file.
 abbrev pub TakesSeeds : Command → Held → ℕ → Type 0
 TakesSeeds (Create name n t drill) held count = (count ≡ n) × ((orders : List Order) × (create_asked name (create_shape n t) drill held ≡ Ok orders))
+TakesSeeds (Refresh name drill) held count = (st : Standing) × (refresh_asked name drill held ≡ Ok st) × (count ≡ seeds_for st)
+TakesSeeds (Move name m u drill) held count = (st : Standing) × (move_asked name m u drill held ≡ Ok st) × (count ≡ seeds_for st)
 TakesSeeds (Recover name) held count = ⊥
 TakesSeeds (Check name) held count = ⊥
 TakesSeeds (Seal name doc target) held count = ⊥
@@ -56,9 +64,11 @@ TakesSeeds (Open name source target) held count = ⊥
 abbrev pub AskForSeeds : List (List ℕ) → Held → ℕ → Type 0
 AskForSeeds words held count = (command : Command) × ReadsAs words command × TakesSeeds command held count
 
--- how many seeds a command may take at most, whatever the shelf holds
+-- how many seeds a command may take at most, whatever the shelf holds; no committee has more than 13 members
 abbrev pub most_seeds : Command → ℕ
 most_seeds (Create name n t drill) = n
+most_seeds (Refresh name drill) = 13
+most_seeds (Move name m u drill) = 13
 most_seeds (Recover name) = 0
 most_seeds (Check name) = 0
 most_seeds (Seal name doc target) = 0
@@ -73,3 +83,9 @@ AreEnoughFor command (Some held) coming = (count : ℕ) → TakesSeeds command h
 -- they are enough for the command that the words are
 abbrev pub AreEnough : List (List ℕ) → Option Held → Option (List (List ℕ)) → Type 0
 AreEnough words held coming = (command : Command) → ReadsAs words command → AreEnoughFor command held coming
+
+-- the words are a move that comes to its phase: its steps before it refuse nothing
+abbrev pub ComeToMove : List (List ℕ) → Held → Type 0
+ComeToMove words held =
+    (name : List ℕ) × (m : ℕ) × (u : ℕ) × (drill : Option (List ℕ)) × ReadsAs words (Move name m u drill)
+    × ((st : Standing) × (move_asked name m u drill held ≡ Ok st))

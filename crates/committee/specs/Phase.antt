@@ -1,56 +1,104 @@
--- What the phase of a create leaves, read off the members' minds on one thread.
-use Rattle.std.specs.Prelude.{◌≡◌, ℕ, ◌+◌, Bool, true, false, cond, List, [], ◌∷◌, ◌++◌, map, Option, Some, None}
+-- What a phase on one thread leaves, read off the members' minds.
+use Rattle.std.specs.Prelude.{◌≡◌, ℕ, ◌+◌, ◌-◌, ◌<◌, ◌≤◌, Bool, true, false, cond, List, [], ◌∷◌, ◌++◌, length, map, get_or, Option, Some, None}
 use Rattle.std.specs.List.{range_with_len}
 use Rattle.algebra61.specs.Field.{Fp}
-use Rattle.talk.specs.Shape.{Shape}
+use Rattle.sharing61.specs.Count.{how_many}
+use Rattle.talk.specs.Shape.{Shape, rounds}
+use Rattle.talk.specs.Sync.{Ways, AllAllowed, all_seats, nobody, sync}
 use Rattle.plays.specs.Play.{Play}
-use Rattle.members.specs.Member.{Member}
-use Rattle.members.specs.Shares.{member_shares, accepted_in, accepted_count, IsDone}
+use Rattle.members.specs.Shares.{accepted_count}
 use Rattle.drillbook.specs.declared.order.Order.{Order}
-use Rattle.drillbook.specs.Word.{DrilledMind}
+use Rattle.drillbook.specs.Word.{DrilledMind, drilled_ways}
 use Rattle.shelf.specs.Held.{Change, Put}
-use Rattle.sharefile.specs.Files.{Now, Share, committee_of, now_bytes, share_bytes}
-use Rattle.keyroom.specs.Names.{now_name, share_name}
-use Rattle.committee.specs.Create.{Dealt, removal, AreMasks, create_play, created_shares}
+use Rattle.sharefile.specs.Files.{Now, IsNow, now_bytes}
+use Rattle.keyroom.specs.Names.{now_name}
+use Rattle.committee.specs.Period.{removals, put_with}
+use Rattle.committee.specs.Create.{AreCreateMasks, play_created, created_shares}
+use Rattle.keyroom.specs.declared.plan.Plan.{Plan}
+use Rattle.keyroom.specs.Changes.{outcome_of}
+use Rattle.committee.specs.Standing.{Standing, down_in, seeds_for}
+use Rattle.committee.specs.Refresh.{AreRefreshMasks, play_refreshed, new_shares, refresh_outcome}
+use Rattle.committee.specs.declared.standing.Asked.{Asked}
 use Rattle.committee.specs.declared.phase.Phase.{Phase}
 
--- every mind on a seat that isn't down has heard all rounds; the first of these minds is on the seat `seat`
-abbrev pub AllDone : (ℕ → Bool) → ℕ → List (DrilledMind Member) → Type 0
-AllDone down seat [] = Unit {0}
-AllDone down seat (m ∷ ms) = (down seat ≡ false → IsDone m.inner.stage) × AllDone down (seat + 1) ms
+-- whether the marks, by member, mark the member on a seat
+abbrev pub marked : List Bool → ℕ → Bool
+marked marks seat = get_or marks (seat - 1) false
+
+-- the marks of the members 1 to n that the test holds of
+abbrev pub marks_of : (ℕ → Bool) → ℕ → List Bool
+marks_of down n = map down (range_with_len 1 n)
 
 -- what a member gets: its shares, or nothing where it is down
 abbrev pub unless_down : Bool → List Fp → Option (List Fp)
 unless_down true shares = None
 unless_down false shares = Some shares
 
--- the shares that the minds have, by seat
-abbrev pub shares_in : (ℕ → Bool) → ℕ → List (DrilledMind Member) → List (Option (List Fp))
-shares_in down seat [] = []
-shares_in down seat (m ∷ ms) = unless_down (down seat) (member_shares m.inner) ∷ shares_in down (seat + 1) ms
+-- where `down` says who is down, the shares of each of the members 1 to n that isn't
+abbrev pub shares_given : (ℕ → Bool) → (ℕ → List Fp) → ℕ → List (Option (List Fp))
+shares_given down lanes n = map (λ j. unless_down (down j) (lanes j)) (range_with_len 1 n)
 
--- how many instances are accepted, by the first mind that isn't down
-abbrev pub accepted_first : (ℕ → Bool) → ℕ → List (DrilledMind Member) → ℕ
-accepted_first down seat [] = 0
-accepted_first down seat (m ∷ ms) = cond (down seat) (accepted_first down (seat + 1) ms) (accepted_in m.inner.stage)
+module _ {M : Type 0} where
+  -- every mind on a seat that isn't down is done; the first of these minds is on the seat `seat`
+  abbrev pub AllDone : (M → Type 0) → (ℕ → Bool) → ℕ → List (DrilledMind M) → Type 0
+  AllDone done down seat [] = Unit {0}
+  AllDone done down seat (m ∷ ms) = (down seat ≡ false → done m.inner) × AllDone done down (seat + 1) ms
 
--- the shares that a play creates for the members 1 to n, none for one that is down
-abbrev pub shares_created : Play → ℕ → List (Option (List Fp))
-shares_created p n = map (λ j. unless_down (p.down j) (created_shares p j)) (range_with_len 1 n)
+  -- the shares that the minds have, by seat
+  abbrev pub shares_in : (M → List Fp) → (ℕ → Bool) → ℕ → List (DrilledMind M) → List (Option (List Fp))
+  shares_in lanes down seat [] = []
+  shares_in lanes down seat (m ∷ ms) = unless_down (down seat) (lanes m.inner) ∷ shares_in lanes down (seat + 1) ms
 
--- the masks are allowed, and the rest is what the play of the run defines
-pub record IsPhase (s : Shape) (down : ℕ → Bool) (orders : List Order) (dealt : List Dealt) (phase : Phase) : Type 0 where
-  pub allowed : AreMasks s orders dealt phase.masks
-  pub accepted : phase.accepted ≡ accepted_count (create_play s down orders dealt phase.masks)
-  pub shares : phase.shares.items ≡ shares_created (create_play s down orders dealt phase.masks) s.receivers
+  -- how many instances are accepted, by the first mind that isn't down
+  abbrev pub accepted_first : (M → ℕ) → (ℕ → Bool) → ℕ → List (DrilledMind M) → ℕ
+  accepted_first accepted down seat [] = 0
+  accepted_first accepted down seat (m ∷ ms) = cond (down seat) (accepted_first accepted down (seat + 1) ms) (accepted m.inner)
 
--- the share file of a member with these lanes
-abbrev pub share_with : Now → ℕ → List Fp → Share
-share_with now index lanes = record { name = now.name; n = now.n; t = now.t; index = index; period = now.period; lanes = lanes; committee = committee_of now }
+  -- whatever masks their words allow, the minds on the seats that aren't down are done after the run
+  abbrev pub EndDone : Ways M → (M → Type 0) → Shape → (ℕ → Bool) → List (DrilledMind M) → Type 0
+  EndDone ways done s down minds =
+      (masks : List ℕ) → length masks ≡ rounds s → AllAllowed (drilled_ways ways) s 1 (all_seats s) nobody masks minds →
+      AllDone done down 1 (sync (drilled_ways ways) s 1 masks minds)
 
--- the put of that file
-abbrev pub put_with : Now → ℕ → List Fp → Change
-put_with now index lanes = Put (share_name now.name now.period index) (share_bytes (share_with now index lanes))
+  -- the masks are ones that the minds' words allow, and the rest is read off the minds after the run under these masks
+  pub record IsReadOff (ways : Ways M) (lanes : M → List Fp) (count : M → ℕ) (s : Shape) (down : ℕ → Bool) (minds : List (DrilledMind M)) (phase : Phase) : Type 0 where
+    pub all : length phase.masks ≡ rounds s
+    pub allowed : AllAllowed (drilled_ways ways) s 1 (all_seats s) nobody phase.masks minds
+    pub accepted : phase.accepted ≡ accepted_first count down 1 (sync (drilled_ways ways) s 1 phase.masks minds)
+    pub shares : phase.shares.items ≡ shares_in lanes down 1 (sync (drilled_ways ways) s 1 phase.masks minds)
+
+-- the accepted instances are those of a play, and each of the members 1 to n that isn't down in it has these shares
+pub record IsPhase (n : ℕ) (p : Play) (lanes : ℕ → List Fp) (phase : Phase) : Type 0 where
+  pub accepted : phase.accepted ≡ accepted_count p
+  pub shares : phase.shares.items ≡ shares_given p.down lanes n
+
+-- the phase of a create
+abbrev pub IsCreatePhase : ℕ → ℕ → List Order → List (List ℕ) → Phase → Type 0
+IsCreatePhase n t orders seeds phase =
+    AreCreateMasks n t orders seeds phase.masks
+    × IsPhase n (play_created n t orders seeds phase.masks) (created_shares (play_created n t orders seeds phase.masks)) phase
+
+-- what a refresh or a move finds, as the code has it
+abbrev pub standing_of : Asked → Standing
+standing_of asked = record { now = asked.file; files = asked.files.items; orders = asked.drill }
+
+-- the key may go on: at most the bound is down, and there is a next period
+pub record IsReady (st : Standing) : Type 0 where
+  pub is_now : IsNow st.now
+  pub all : length st.files ≡ st.now.n
+  pub few : how_many st.now.n (down_in st) ≤ st.now.t
+  pub next : st.now.period < 4294967295
+
+-- the phase of a refresh
+abbrev pub IsRefreshPhase : Standing → List (List ℕ) → Phase → Type 0
+IsRefreshPhase st seeds phase =
+    AreRefreshMasks st seeds phase.masks
+    × IsPhase st.now.n (play_refreshed st seeds phase.masks) (new_shares st seeds (play_refreshed st seeds phase.masks)) phase
+
+-- the plan of a refresh with these seeds, under masks that the phase allows
+abbrev pub IsRefreshPlan : Standing → List (List ℕ) → Plan → Type 0
+IsRefreshPlan st seeds plan =
+    (masks : List ℕ) × AreRefreshMasks st seeds masks × (outcome_of (seeds_for st) plan ≡ refresh_outcome st seeds masks (play_refreshed st seeds masks))
 
 -- what f makes of each value that is there, given with its index, from `index` on
 abbrev pub each_given : {A B : Type 0} → (ℕ → A → B) → ℕ → List (Option A) → List B
@@ -67,6 +115,9 @@ abbrev pub indexes_of : {A : Type 0} → ℕ → List (Option A) → List ℕ
 indexes_of index shares = each_given (λ i x. i) index shares
 
 -- what may be left is removed, then the share files are put, and the now file last
-abbrev pub changes_with : Now → List (Option (List Fp)) → List Change
-changes_with now shares =
-    map (removal now.name now.period) (range_with_len 1 15) ++ (puts_of now 1 shares ++ Put (now_name now.name) (now_bytes now) ∷ [])
+abbrev pub period_with : Now → List (Option (List Fp)) → List Change
+period_with now shares = removals now.name now.period ++ (puts_of now 1 shares ++ Put (now_name now.name) (now_bytes now) ∷ [])
+
+-- the same between what the periods before may have left
+abbrev pub next_with : Now → Now → List (Option (List Fp)) → List Change
+next_with before now shares = removals before.name (before.period - 1) ++ (period_with now shares ++ removals before.name before.period)

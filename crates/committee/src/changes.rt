@@ -1,14 +1,13 @@
 //! The changes of the commands that make a new period.
-ghost use Rattle.std.specs.Prelude.{◌≡◌, ◌≤◌, ◌<◌, ◌*◌, ◌∷◌, [], ◌++◌, map, length, OnOk};
-ghost use Rattle.std.specs.List.{range_with_len};
+ghost use Rattle.std.specs.Prelude.{◌≡◌, ◌≤◌, ◌<◌, ◌*◌, ◌∷◌, [], ◌++◌, length, OnOk, IfOk};
 ghost use Rattle.shelf.specs.Held.{Put};
 ghost use Rattle.sharefile.specs.Files.{now_bytes};
 ghost use Rattle.keyroom.specs.Names.{now_name};
 ghost use Rattle.keyroom.specs.Changes.{changes_of};
-ghost use Rattle.committee.specs.Create.{removal};
-ghost use Rattle.committee.specs.Phase.{share_with, put_with, puts_of};
+ghost use Rattle.committee.specs.Period.{removal, removals, share_with, put_with};
+ghost use Rattle.committee.specs.Phase.{puts_of, indexes_of, period_with, next_with};
 
-use field61::Fe;
+use field61::{Fe, NumberList};
 use keyroom::{Change, now_name, share_name};
 use lists::OutOfMemory;
 use sharefile::{KeyName, NowFile, ShareFile, write_now, write_share};
@@ -29,13 +28,13 @@ fn push_removal(
 }
 
 /// Appends the removals of the share files 1 to 15 of a period.
-pub(crate) fn push_removals(
+fn push_removals(
     alloc: Global,
     changes: &mut Vec<Change>,
     name: &KeyName,
     period: u32,
 ) -> Result<(), OutOfMemory>
-    ensures { OnOk result (changes_of changes.new.items ≡ changes_of changes.old.items ++ map (removal name.now period) (range_with_len 1 15)) }
+    ensures { OnOk result (changes_of changes.new.items ≡ changes_of changes.old.items ++ removals name.now period) }
 {
     for index in 1..16 {
         push_removal(alloc, changes, name, period, index)?;
@@ -97,7 +96,7 @@ fn push_share(
 }
 
 /// Appends the puts of the share files of all members that have shares, by index.
-pub(crate) fn push_shares(
+fn push_shares(
     alloc: Global,
     changes: &mut Vec<Change>,
     now: &NowFile,
@@ -116,15 +115,80 @@ pub(crate) fn push_shares(
 }
 
 /// Appends the put of the now file.
-pub(crate) fn push_now(
-    alloc: Global,
-    changes: &mut Vec<Change>,
-    now: &NowFile,
-) -> Result<(), OutOfMemory>
+fn push_now(alloc: Global, changes: &mut Vec<Change>, now: &NowFile) -> Result<(), OutOfMemory>
     ensures { OnOk result (changes_of changes.new.items ≡ changes_of changes.old.items ++ Put (now_name now.now.name) (now_bytes now.now) ∷ []) }
 {
     let name = now_name(alloc, &now.name)?;
     let bytes = write_now(alloc, now)?;
     changes.push(Change::Put { name, bytes })?;
     Ok(())
+}
+
+/// Appends what makes a period: what a stopped run may have left of it is removed, then its files are put.
+fn push_period(
+    alloc: Global,
+    changes: &mut Vec<Change>,
+    now: &NowFile,
+    shares: &[Option<[Fe; 5]>],
+) -> Result<(), OutOfMemory>
+    requires all { length shares.now ≡ now.now.n }
+    requires few { length shares.now ≤ 15 }
+    ensures { OnOk result (changes_of changes.new.items ≡ changes_of changes.old.items ++ period_with now.now shares.now) }
+{
+    push_removals(alloc, changes, &now.name, now.period)?;
+    push_shares(alloc, changes, now, shares)?;
+    push_now(alloc, changes, now)?;
+    Ok(())
+}
+
+/// All changes of a create, in their order.
+pub(crate) fn first_changes(
+    alloc: Global,
+    now: &NowFile,
+    shares: &[Option<[Fe; 5]>],
+) -> Result<Vec<Change>, OutOfMemory>
+    requires all { length shares.now ≡ now.now.n }
+    requires few { length shares.now ≤ 15 }
+    ensures { IfOk result (λ changes. changes_of changes.items ≡ period_with now.now shares.now) }
+{
+    let mut changes = Vec::new(alloc);
+    push_period(alloc, &mut changes, now, shares)?;
+    Ok(changes)
+}
+
+/// All changes with which a period follows another, in their order.
+pub(crate) fn next_changes(
+    alloc: Global,
+    before: &NowFile,
+    now: &NowFile,
+    shares: &[Option<[Fe; 5]>],
+) -> Result<Vec<Change>, OutOfMemory>
+    requires all { length shares.now ≡ now.now.n }
+    requires few { length shares.now ≤ 15 }
+    ensures { IfOk result (λ changes. changes_of changes.items ≡ next_with before.now now.now shares.now) }
+{
+    let mut changes = Vec::new(alloc);
+    push_removals(alloc, &mut changes, &before.name, before.period - 1)?;
+    push_period(alloc, &mut changes, now, shares)?;
+    push_removals(alloc, &mut changes, &before.name, before.period)?;
+    Ok(changes)
+}
+
+/// The indexes of the members that have shares.
+pub(crate) fn indexes_of(
+    alloc: Global,
+    shares: &[Option<[Fe; 5]>],
+) -> Result<NumberList, OutOfMemory>
+    requires { length shares.now ≤ 15 }
+    ensures { IfOk result (λ indexes. indexes ≡ indexes_of 1 shares.now) }
+{
+    let mut indexes = NumberList::new(alloc);
+    let mut index = 1;
+    for lanes in shares {
+        if lanes.is_some() {
+            indexes.push(index)?;
+        }
+        index += 1;
+    }
+    Ok(indexes)
 }

@@ -7,65 +7,33 @@ ghost use Rattle.drillbook.specs.Orders.{names, AllLawful};
 ghost use Rattle.drillbook.specs.Text.{named_among};
 ghost use Rattle.keyroom.specs.Causes.{IsFromPlan};
 ghost use Rattle.keyroom.specs.Outcome.{Outcome, AnswersStep};
-ghost use Rattle.keyroom.specs.Changes.{changes_of, outcome_of};
+ghost use Rattle.keyroom.specs.Changes.{outcome_of};
 ghost use Rattle.keyroom.specs.Commands.{text_of};
 ghost use Rattle.keyroom.specs.Texts.{create_text};
 ghost use Rattle.keyroom.specs.Words.{Create};
 ghost use Rattle.talk.specs.Shape.{create_shape};
 ghost use Rattle.committee.specs.Answer.{PlansWith};
 ghost use Rattle.committee.specs.Causes.{before_text, IsFromCommand, IsFromEntropy};
-ghost use Rattle.committee.specs.Create.{create_asked, dealt_by, play_created, AreMasks, create_outcome, first_now, Creates};
-ghost use Rattle.committee.specs.Links.{first_link};
+ghost use Rattle.committee.specs.Create.{create_asked, play_created, AreCreateMasks, create_outcome, Creates};
+ghost use Rattle.committee.specs.Links.{first_link, first_now};
 ghost use Rattle.committee.specs.Meaning.{MeansSome, TakesSeeds, AreEnoughFor};
-ghost use Rattle.committee.specs.Phase.{changes_with, indexes_of};
+ghost use Rattle.committee.specs.Phase.{indexes_of};
 
-use crate::changes::{push_now, push_removals, push_shares};
+use crate::changes::{first_changes, indexes_of};
+use crate::create_phase::run_create;
+use crate::down::drilled_marks;
 use crate::drill::drill_of;
 use crate::holders::first_now;
-use crate::phase::{Phase, run_create};
+use crate::phase::Phase;
 use crate::seeds::seeds_of;
 use drillbook::Drill;
-use field61::{Fe, NumberList};
-use keyroom::{Change, Plan, Status, check_free, create_text, now_name};
+use keyroom::{Plan, Status, check_free, create_text, now_name};
 use lists::OutOfMemory;
 use sharefile::{KeyName, NowFile};
 use shelf::{Entropy, Shelf};
 use sizes::{Committee, LANES};
 use std::alloc::Global;
 use talk::Setting;
-
-/// All changes of a create, in their order.
-fn changes_with(
-    alloc: Global,
-    now: &NowFile,
-    shares: &[Option<[Fe; 5]>],
-) -> Result<Vec<Change>, OutOfMemory>
-    requires all { length shares.now ≡ now.now.n }
-    requires few { length shares.now ≤ 15 }
-    ensures { IfOk result (λ changes. changes_of changes.items ≡ changes_with now.now shares.now) }
-{
-    let mut changes = Vec::new(alloc);
-    push_removals(alloc, &mut changes, &now.name, now.period)?;
-    push_shares(alloc, &mut changes, now, shares)?;
-    push_now(alloc, &mut changes, now)?;
-    Ok(changes)
-}
-
-/// The indexes of the members that have shares.
-fn indexes_of(alloc: Global, shares: &[Option<[Fe; 5]>]) -> Result<NumberList, OutOfMemory>
-    requires { length shares.now ≤ 15 }
-    ensures { IfOk result (λ indexes. indexes ≡ indexes_of 1 shares.now) }
-{
-    let mut indexes = NumberList::new(alloc);
-    let mut index = 1;
-    for lanes in shares {
-        if lanes.is_some() {
-            indexes.push(index)?;
-        }
-        index += 1;
-    }
-    Ok(indexes)
-}
 
 /// What is printed of a create.
 fn created_text(alloc: Global, now: &NowFile, phase: &Phase) -> Result<String, OutOfMemory>
@@ -97,12 +65,13 @@ fn plan_of(
     requires lines { AllLawful (create_shape committee.members committee.bound) drill.now }
     requires few { named_among drill.now 0 committee.members ≤ committee.bound }
     requires seeds { length seeds.now ≡ committee.members }
-    ensures { IfOk result (λ plan. (masks : List ℕ) × AreMasks (create_shape committee.members committee.bound) drill.now (dealt_by committee.bound seeds.now) masks
+    ensures { IfOk result (λ plan. (masks : List ℕ) × AreCreateMasks committee.members committee.bound drill.now seeds.now masks
         × (outcome_of committee.members plan ≡ create_outcome (first_now name.now committee.members committee.bound (first_link name.now committee.members committee.bound (names drill.now))) masks (play_created committee.members committee.bound drill.now seeds.now masks))) }
 {
-    let now = first_now(name, committee, drill);
-    let phase = run_create(alloc, committee, drill, seeds)?;
-    let changes = changes_with(alloc, &now, &phase.shares)?;
+    let down = drilled_marks(alloc, drill, committee.members)?;
+    let now = first_now(name, committee, &down);
+    let phase = run_create(alloc, committee, drill, &down, seeds)?;
+    let changes = first_changes(alloc, &now, &phase.shares)?;
     let text = created_text(alloc, &now, &phase)?;
     Ok(Plan { changes, text })
 }

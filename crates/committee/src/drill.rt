@@ -6,7 +6,7 @@ ghost use Rattle.drillbook.specs.Text.{drill_at, named_among};
 ghost use Rattle.keyroom.specs.Causes.{IsFromPlan};
 ghost use Rattle.keyroom.specs.Outcome.{AnswersStep};
 ghost use Rattle.keyroom.specs.Commands.{text_of};
-ghost use Rattle.committee.specs.Create.{drill_read, drill_of};
+ghost use Rattle.committee.specs.Drill.{drill_read, drill_of};
 
 use drillbook::{Drill, DrillFault, read_drill};
 use keyroom::{Status, What, get};

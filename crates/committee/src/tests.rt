@@ -2,7 +2,7 @@ ghost use Rattle.std.specs.Prelude.{◌≤◌};
 
 use super::*;
 use field61::Fe;
-use keyroom::{MemberState, Sealed, check_key, open_doc, recover_key, seal_doc};
+use keyroom::{MemberState, Sealed, check_key, open_doc, recover_key, seal_doc, share_name};
 use lists::TryCopy;
 use sharefile::{KeyName, NowFile, ShareFile, read_now, write_now, write_share};
 use shelf::{MemoryEntropy, MemoryShelf, MemorySink, Shelf};
@@ -506,4 +506,157 @@ fn a_drill_of_a_megabyte_is_refused_with_its_line(rt: HostRuntime) -> Result<(),
     refuses_drill(alloc, "d", &idle, "refused 9 drill line 3")?;
     let empty = megabyte(alloc, b'\n', b"4 2 veto\n")?;
     refuses_drill(alloc, "d", &empty, "refused 9 drill line 1048577")
+}
+
+/// What a refresh of `k1` with 4 members from period 1 prints.
+const REFRESHED: &str = "refresh k1 4 1 period 2\n\
+    round 1 mask 15\nround 2 mask 15\nround 3 mask 15\nround 4 mask 15\nround 5 mask 15\n\
+    accepted 20 of 20\nshares 1 2 3 4\n";
+
+#[test]
+fn a_refresh_after_a_create_keeps_the_key(rt: HostRuntime) -> Result<(), Fail> {
+    let alloc = rt.alloc();
+    let mut shelf = MemoryShelf::new(alloc, Vec::new(alloc));
+    runs(alloc, &mut shelf, &["create", "k1", "4", "1"], "", CREATED)?;
+    runs(alloc, &mut shelf, &["refresh", "k1"], "", REFRESHED)?;
+    assert_eq!(rt; shelf.len(), 5);
+    assert!(rt; shelf.get(alloc, "k1.2.4.share")?.is_some());
+    let text = "recover k1 4 1 period 2\n\
+        member 1 ok\nmember 2 ok\nmember 3 ok\nmember 4 ok\n\
+        key e39a69c229a5f7107d42fc6b86e467b611279a1c57d1dfa4befdb8b2ee23bd95\n";
+    runs(alloc, &mut shelf, &["recover", "k1"], "", text)
+}
+
+#[test]
+fn a_drilled_member_of_a_refresh_gets_no_share(rt: HostRuntime) -> Result<(), Fail> {
+    let alloc = rt.alloc();
+    let mut shelf = shelf_of(alloc, 16)?;
+    shelf.put(alloc, "d", b"2 1 silent\n")?;
+    let text = "refresh k1 4 1 period 2\n\
+        round 1 mask 13\nround 2 mask 13\nround 3 mask 13\nround 4 mask 13\nround 5 mask 13\n\
+        accepted 20 of 20\nshares 1 3 4\n";
+    runs(alloc, &mut shelf, &["refresh", "k1", "d"], "", text)?;
+    let text = "recover k1 4 1 period 2\n\
+        member 1 ok\nmember 2 missing\nmember 3 ok\nmember 4 ok\n\
+        key 133e7f97ad4b6a1fc1bebc9e6a35d495f3de8d4df7615d75d074b69f4d1ec0c3\n";
+    runs(alloc, &mut shelf, &["recover", "k1"], "", text)?;
+    shelf.put(alloc, "d", b"4 1 silent")?;
+    let line = "refused 5 sound 2 needed 3";
+    runs(alloc, &mut shelf, &["refresh", "k1", "d"], line, "")
+}
+
+/// The shelf with the now file of `k1` in its last period.
+fn last_period(alloc: Global) -> Result<MemoryShelf, Fail> {
+    let mut shelf = MemoryShelf::new(alloc, Vec::new(alloc));
+    let now = NowFile {
+        name: KeyName::from_text("k1").ok_or("a name")?,
+        n: 4,
+        t: 1,
+        period: u32::MAX,
+        next_number: 0,
+        link: None,
+    };
+    shelf.put(alloc, "k1.now", &write_now(alloc, &now)?)?;
+    Ok(shelf)
+}
+
+/// The share file of a member of `k1` in its last period.
+fn put_last_share(alloc: Global, shelf: &mut MemoryShelf, index: u32) -> Result<(), Fail>
+    requires { (1 ≤ index) × (index ≤ 4) }
+{
+    let name = KeyName::from_text("k1").ok_or("a name")?;
+    let share = ShareFile {
+        name,
+        n: 4,
+        t: 1,
+        index,
+        period: u32::MAX,
+        lanes: [Fe::ZERO; 5],
+        committee: None,
+    };
+    let file = share_name(alloc, &name, u32::MAX, index)?;
+    shelf.put(alloc, file.as_str(), &write_share(alloc, &share)?)?;
+    Ok(())
+}
+
+#[test]
+fn a_refresh_of_the_last_period_is_full(rt: HostRuntime) -> Result<(), Fail> {
+    let alloc = rt.alloc();
+    let mut shelf = last_period(alloc)?;
+    let line = "refused 5 sound 0 needed 3";
+    runs(alloc, &mut shelf, &["refresh", "k1"], line, "")?;
+    for index in 1..5 {
+        put_last_share(alloc, &mut shelf, index)?;
+    }
+    let line = "refused 8 full 4294967295";
+    runs(alloc, &mut shelf, &["refresh", "k1"], line, "")?;
+    assert_eq!(rt; shelf.len(), 5);
+    Ok(())
+}
+
+#[test]
+fn a_refresh_turns_files_of_version_1_into_version_2(rt: HostRuntime) -> Result<(), Fail> {
+    let alloc = rt.alloc();
+    let mut shelf = shelf_of(alloc, 16)?;
+    runs(alloc, &mut shelf, &["refresh", "k1"], "", REFRESHED)?;
+    assert_eq!(rt; shelf.len(), 5);
+    let Some(bytes) = shelf.get(alloc, "k1.now")? else {
+        return Err("a now file".into());
+    };
+    let Ok(now) = read_now(&bytes) else {
+        return Err("a now file".into());
+    };
+    let link = now.link.ok_or("version 2")?;
+    assert_eq!(rt; link.holders, 15);
+    assert!(rt; link.previous == [0; 32]);
+    runs(alloc, &mut shelf, &["refresh", "k1"], "", TWICE)
+}
+
+/// What the next refresh prints.
+const TWICE: &str = "refresh k1 4 1 period 3\n\
+    round 1 mask 15\nround 2 mask 15\nround 3 mask 15\nround 4 mask 15\nround 5 mask 15\n\
+    accepted 20 of 20\nshares 1 2 3 4\n";
+
+#[test]
+fn a_move_keeps_the_key(rt: HostRuntime) -> Result<(), Fail> {
+    let alloc = rt.alloc();
+    let mut shelf = shelf_of(alloc, 16)?;
+    let text = "move k1 4 1 to 5 1 period 2\n\
+        round 1 mask 511\nround 2 mask 511\nround 3 mask 511\nround 4 mask 511\nround 5 mask 511\n\
+        round 6 mask 511\naccepted 20 of 20\ncorrected none\nshares 1 2 3 4 5\n";
+    runs(alloc, &mut shelf, &["move", "k1", "5", "1"], "", text)?;
+    assert_eq!(rt; shelf.len(), 6);
+    let text = "recover k1 5 1 period 2\n\
+        member 1 ok\nmember 2 ok\nmember 3 ok\nmember 4 ok\nmember 5 ok\n\
+        key 133e7f97ad4b6a1fc1bebc9e6a35d495f3de8d4df7615d75d074b69f4d1ec0c3\n";
+    runs(alloc, &mut shelf, &["recover", "k1"], "", text)
+}
+
+#[test]
+fn a_move_corrects_a_wrong_share(rt: HostRuntime) -> Result<(), Fail> {
+    let alloc = rt.alloc();
+    let mut shelf = shelf_of(alloc, 16)?;
+    shelf.put(alloc, "d", b"1 1 wrong 1\n")?;
+    let text = "move k1 4 1 to 7 2 period 2\n\
+        round 1 mask 2047\nround 2 mask 2047\nround 3 mask 2047\nround 4 mask 2047\n\
+        round 5 mask 2047\nround 6 mask 2047\n\
+        accepted 20 of 20\ncorrected 1\nshares 1 2 3 4 5 6 7\n";
+    runs(alloc, &mut shelf, &["move", "k1", "7", "2", "d"], "", text)?;
+    let text = "recover k1 7 2 period 2\n\
+        member 1 ok\nmember 2 ok\nmember 3 ok\nmember 4 ok\nmember 5 ok\nmember 6 ok\nmember 7 ok\n\
+        key 133e7f97ad4b6a1fc1bebc9e6a35d495f3de8d4df7615d75d074b69f4d1ec0c3\n";
+    runs(alloc, &mut shelf, &["recover", "k1"], "", text)
+}
+
+#[test]
+fn a_move_of_two_wrong_shares_of_four_has_no_result(rt: HostRuntime) -> Result<(), Fail> {
+    let alloc = rt.alloc();
+    let mut shelf = shelf_of(alloc, 16)?;
+    put_share(alloc, &mut shelf, "k1.1.1.share", 1, 11)?;
+    put_share(alloc, &mut shelf, "k1.1.2.share", 2, 14)?;
+    let line = "refused 6 lane 0 syndrome 1537228672809129301 384307168202282326";
+    runs(alloc, &mut shelf, &["move", "k1", "7", "2"], line, "")?;
+    assert_eq!(rt; shelf.len(), 5);
+    assert!(rt; shelf.get(alloc, "k1.1.4.share")?.is_some());
+    Ok(())
 }

@@ -1,30 +1,38 @@
 //! The call that the program makes.
-ghost use Rattle.std.specs.Prelude.{◌≡◌, ◌≢◌, ◌≤◌, ◌↔◌, List, [], ℕ, length, take, Ok, None, IfSome, IsSome, IfErr, Option};
+ghost use Rattle.std.specs.Prelude.{◌≡◌, ◌≢◌, ◌≤◌, ◌⊎◌, ◌↔◌, List, [], ℕ, length, take, Ok, None, IfSome, IsSome, IfOk, IfErr, Option};
+ghost use Rattle.algebra61.specs.Field.{Fp};
 ghost use Rattle.algebra61.specs.Polynomial.{Polynomial};
 ghost use Rattle.sharefile.specs.declared.link.Link.{Link};
 ghost use Rattle.sharefile.specs.Files.{Now};
+ghost use Rattle.talk.specs.Shape.{move_shape, refresh_shape};
 ghost use Rattle.shelf.specs.Causes.{OnlyReads};
 ghost use Rattle.keyroom.specs.declared.document.Direction.{Direction};
+ghost use Rattle.keyroom.specs.declared.status.Status.TheVariants.{NoWord};
 ghost use Rattle.keyroom.specs.Causes.{cause_of};
 ghost use Rattle.keyroom.specs.Causes as cause;
-ghost use Rattle.keyroom.specs.Words.{Create, Recover, ReadsAs, texts, IsUsage, IsInRange};
+ghost use Rattle.keyroom.specs.Words.{Create, Refresh, Move, Recover, ReadsAs, texts, IsUsage, IsInRange};
 ghost use Rattle.keyroom.specs.Commands.{command_of};
 ghost use Rattle.keyroom.specs.Outcome.{Outcome, done};
-ghost use Rattle.keyroom.specs.Steps.{files_of};
+ghost use Rattle.keyroom.specs.Steps.{now_of, files_of};
 ghost use Rattle.keyroom.specs.Decoding.{HonestFiles};
 ghost use Rattle.keyroom.specs.Recover.{recovered_by};
 ghost use Rattle.keyroom.specs.Texts.{recover_text};
 ghost use Rattle.keyroom.specs.Work.{KeyIsOf};
 ghost use Rattle.keyroom.specs.Document.{DocumentCommandBy};
-ghost use Rattle.committee.specs.Create.{first_now};
-ghost use Rattle.committee.specs.Meaning.{Given, MeansSome, MeansUnder, Means, TakesSeeds, AskForSeeds, AreEnoughFor, AreEnough};
+ghost use Rattle.committee.specs.Links.{first_now};
+ghost use Rattle.committee.specs.Meaning.{Given, MeansSome, MeansUnder, Means, TakesSeeds, AskForSeeds, AreEnoughFor, AreEnough, ComeToMove};
 ghost use Rattle.committee.specs.Agreement.{HeldOnOneLine, NewOnOneLine, CreatesOnOneLine, MadeAll};
 ghost use Rattle.committee.specs.Plain.{HeldPlain};
+ghost use Rattle.committee.specs.Begins.{PeriodsGoOn};
+ghost use Rattle.committee.specs.Kept.{IsRefreshed, SoundFiles, KeyStays, ReadsNow, RefreshesByOne, RefreshesKeepTheKey};
+ghost use Rattle.committee.specs.Moved.{IsMoved, HasNoWord, MovesCarryPolynomials, MovesNameTheirLane, SoundMovesHaveWords, MovesKeepTheKey};
 ghost use Rattle.committee.specs.Recovery.{Honestly, document_command};
 ghost use Rattle.committee.specs.Answer.{PlansWith, Does, Completes, Writes};
 ghost use Rattle.committee.specs.Causes.{before_text, IsCounted, IsFromCommand};
 
 use crate::create::plan_create;
+use crate::moving::plan_move;
+use crate::refresh::plan_refresh;
 use keyroom::{
     Command, Direction, Plan, Status, carry_out, plan_check, plan_document, plan_recover,
     read_words,
@@ -47,6 +55,7 @@ fn plan<H: Shelf, E: Entropy>(
     ensures later { E.fault_count entropy.old ≤ E.fault_count entropy.new }
     ensures cause { IfErr result (IsFromCommand (before_text (H.fault_count shelf.old) (E.fault_count entropy.old)) (before_text (H.fault_count shelf.new) (E.fault_count entropy.new))) }
     ensures calm { E.calm entropy.old → AreEnoughFor (command_of command.now) (H.held shelf.old) (E.coming entropy.old) → E.calm entropy.new }
+    ensures now { IfOk result (λ _. IfSome (H.held shelf.old) (ReadsNow (command_of command.now))) }
 {
     match command {
         Command::Create {
@@ -54,6 +63,12 @@ fn plan<H: Shelf, E: Entropy>(
             committee,
             drill,
         } => plan_create(alloc, name, *committee, *drill, shelf, entropy),
+        Command::Refresh { name, drill } => plan_refresh(alloc, name, *drill, shelf, entropy),
+        Command::Move {
+            name,
+            committee,
+            drill,
+        } => plan_move(alloc, name, *committee, *drill, shelf, entropy),
         Command::Recover { name } => plan_recover(alloc, name, shelf),
         Command::Check { name } => plan_check(alloc, name, shelf),
         Command::Seal { name, doc, target } => {
@@ -75,7 +90,8 @@ fn plan<H: Shelf, E: Entropy>(
 /// What stands after an answer is said by its cause. `Done`: all of it was done. `SinkFault`: all changes were made, and
 /// a part of the text from its front may have gone out. `ShelfFault` and `OutOfMemory`: a part of the changes from their
 /// front was made, and nothing went out. Each other answer leaves the shelf and the sink as they were. `EntropyFault`
-/// comes only where a create has come to its seeds, and each further answer is exactly what the words and the files mean.
+/// comes only where a command has come to its seeds, and each further answer is exactly what the words and the files mean.
+/// `NoWord` alone comes when seeds were taken.
 pub fn run<H: Shelf, E: Entropy, K: Sink>(
     alloc: Global,
     words: &[String],
@@ -103,6 +119,30 @@ pub fn run<H: Shelf, E: Entropy, K: Sink>(
     // Without a drill each share is the sum over all members of what the grids that they draw from their seeds say.
     ensures plain { MadeAll (cause_of result) → IfSome (H.held shelf.old) (λ old. IfSome (H.held shelf.new) (λ m. IfSome (E.coming entropy.old) (λ seeds.
         (name : List ℕ) (n t : ℕ) → ReadsAs (texts words.now) (Create name n t None) → (link : Option Link) → HeldPlain (first_now name n t link) (take n seeds) m))) }
+    // After a refresh each new share is the old one plus, in each lane, the value of one polynomial times the member's
+    // index, whatever the drilled members said.
+    ensures refreshed { MadeAll (cause_of result) → IfSome (H.held shelf.old) (λ old. IfSome (H.held shelf.new) (λ m.
+        (name : List ℕ) (drill : Option (List ℕ)) (before : Now) → ReadsAs (texts words.now) (Refresh name drill) → now_of name old ≡ Ok before → IsRefreshed name before old m)) }
+    // The key stays, whatever the answer, where N - T members that aren't drilled had shares on polynomials of degree at
+    // most T.
+    ensures kept { IfSome (H.held shelf.old) (λ old. IfSome (H.held shelf.new) (λ m.
+        (name : List ℕ) (drill : Option (List ℕ)) (before : Now) (polys : List Polynomial) → ReadsAs (texts words.now) (Refresh name drill) → SoundFiles name (refresh_shape before.n before.t) drill before old polys → KeyStays name before polys old m)) }
+    // After a move the new share files lie, in each lane, on one polynomial. Its value at 0 is that of each polynomial that is
+    // near to what the old members shared, and one is, whatever the drilled members of both committees said.
+    ensures moved { MadeAll (cause_of result) → IfSome (H.held shelf.old) (λ old. IfSome (H.held shelf.new) (λ m.
+        (name : List ℕ) (size bound : ℕ) (drill : Option (List ℕ)) (before : Now) → ReadsAs (texts words.now) (Move name size bound drill) → now_of name old ≡ Ok before →
+        (masks : List ℕ) × IsMoved name size bound drill before (E.coming entropy.old) masks old m)) }
+    // NoWord names the least lane in which no polynomial is near to what the old members shared.
+    ensures no_word { IfSome (H.held shelf.old) (λ m. (name : List ℕ) (size bound : ℕ) (drill : Option (List ℕ)) (lane : ℕ) (syndrome : List Fp) →
+        ReadsAs (texts words.now) (Move name size bound drill) → result ≡ NoWord lane syndrome →
+        (masks : List ℕ) × HasNoWord name size bound drill (E.coming entropy.old) masks m lane syndrome) }
+    // It is never answered where N - T members that aren't drilled have shares on polynomials of degree at most T.
+    ensures word { IfSome (H.held shelf.old) (λ m. (name : List ℕ) (size bound : ℕ) (drill : Option (List ℕ)) (before : Now) (polys : List Polynomial) (lane : ℕ) (syndrome : List Fp) →
+        ReadsAs (texts words.now) (Move name size bound drill) → SoundFiles name (move_shape before.n before.t size bound) drill before m polys → result ≢ NoWord lane syndrome) }
+    // Then the key stays in a move, whatever the answer.
+    ensures carried { IfSome (H.held shelf.old) (λ old. IfSome (H.held shelf.new) (λ m.
+        (name : List ℕ) (size bound : ℕ) (drill : Option (List ℕ)) (before : Now) (polys : List Polynomial) → ReadsAs (texts words.now) (Move name size bound drill) →
+        SoundFiles name (move_shape before.n before.t size bound) drill before old polys → KeyStays name before polys old m)) }
     // Any N - T honest share files are enough, whatever the other files are: the key that is recovered, under which a
     // document is sealed or opened, is what they say, and so are the members' states.
     ensures honest { IfSome (H.held shelf.old) (λ m. (name : List ℕ) (now : Now) (polys : List Polynomial) → HonestFiles name now m polys →
@@ -134,9 +174,10 @@ pub fn run<H: Shelf, E: Entropy, K: Sink>(
     }
 }
 
-/// What the words and the outside mean has one status, whether or not the seeds to come are told.
+/// What the words and the outside mean has one status, whether or not the seeds to come are told, but for a move that comes to
+/// its phase: whether a seat that posts late is in a mask may decide between `Done` and `NoWord`.
 pub fn one_status()
-    ensures { (words : List (List ℕ)) (given : Given) (a b : Outcome) → Means words given a → Means words given b → a.status ≡ b.status }
+    ensures { (words : List (List ℕ)) (given : Given) (a b : Outcome) → Means words given a → Means words given b → (a.status ≡ b.status) ⊎ ComeToMove words given.held }
 {}
 
 /// What the words and the outside mean under the masks of the rounds of all phases is one outcome, where the seeds to come
@@ -149,6 +190,50 @@ pub fn one_meaning()
 /// most T, where they are valid share files of the key.
 pub fn created_share_files_lie_on_one_polynomial()
     ensures { CreatesOnOneLine }
+{}
+
+/// A next period begins with one change, the put of its now file: up to there the now file and the share files that stood
+/// are left, and from there on the share files of the new period are there, and nothing touches them.
+pub fn a_next_period_begins_with_one_change()
+    ensures { PeriodsGoOn }
+{}
+
+/// A refresh adds shares of 0: in each lane there is one polynomial h of degree at most T - 1 such that the new share of
+/// each member j that gets a share file is its old one plus j times h (j), whatever the drilled members say.
+pub fn a_refresh_adds_shares_of_zero()
+    ensures { RefreshesByOne }
+{}
+
+/// A refresh keeps the key: where N - T members that aren't drilled have valid share files that lie on polynomials of
+/// degree at most T, so do N - T members' after each part of its changes from the front, and the values at 0 are the same.
+pub fn a_refresh_keeps_the_key()
+    ensures { RefreshesKeepTheKey }
+{}
+
+/// A move carries polynomials: in each lane some polynomial of degree at most T differs from what the old members shared at
+/// no more than T of them, and for each that does the new share files lie on one polynomial of degree at most U with the
+/// same value at 0. What a member with a valid share file shared is its share, where no order names it.
+pub fn a_move_carries_polynomials()
+    ensures { MovesCarryPolynomials }
+{}
+
+/// A move that is refused for want of an error vector names the least lane in which no polynomial is so near to what was
+/// shared, with the syndrome of that.
+pub fn a_move_without_a_word_names_its_lane()
+    ensures { MovesNameTheirLane }
+{}
+
+/// No move is so refused where N - T members that aren't drilled have valid share files that lie on polynomials of degree at
+/// most T.
+pub fn a_move_of_sound_files_has_a_word()
+    ensures { SoundMovesHaveWords }
+{}
+
+/// A move keeps the key: where N - T members that aren't drilled have valid share files that lie on polynomials of degree
+/// at most T, the valid share files of the committee whose now file is held lie on polynomials with the same values at 0,
+/// all but T or U of them, after each part of the changes from the front.
+pub fn a_move_keeps_the_key()
+    ensures { MovesKeepTheKey }
 {}
 
 /// Any N - T honest share files are enough: where N - T valid share files lie on polynomials of degree at most T,

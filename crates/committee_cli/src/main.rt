@@ -4,9 +4,13 @@
 use committee::{Status, run};
 use keyroom::{Command, read_words};
 use shelf::{DeviceEntropy, FolderShelf, OutSink};
+use std::alloc::Global;
 use std::io::ErrorKind;
 use std::process::ExitCode;
 use std::{env, io};
+
+/// Four megabytes: more than a phase frees at a time, and little beside a document.
+const LARGE_BLOCK: usize = 4194304;
 
 /// The words of the command line, without the program's own name.
 fn words(rt: &HostRuntime) -> io::Result<Vec<String>> {
@@ -28,8 +32,17 @@ fn folder_for<'a>(
         Command::Seal { target, .. } | Command::Open { target, .. } => {
             FolderShelf::open_exclusive(rt, Some(*target))
         }
-        Command::Create { .. } => FolderShelf::open_exclusive(rt, None),
+        Command::Create { .. } | Command::Refresh { .. } | Command::Move { .. } => {
+            FolderShelf::open_exclusive(rt, None)
+        }
     }
+}
+
+/// Has the C library keep memory that is given back, up to some megabytes, in place of handing the end of its heap to the
+/// system at each chance: a phase would have it back at once. One large block that is taken and given back tells it so.
+/// Nothing of it is touched, and where there is none nothing is lost.
+fn keep_freed_memory(alloc: Global) {
+    let _ = Vec::<u8>::with_capacity(alloc, LARGE_BLOCK);
 }
 
 /// Runs the command over the real shelf, entropy and sink. Words that aren't UTF-8 are no command.
@@ -52,6 +65,7 @@ fn status_of(rt: &HostRuntime) -> Status {
 }
 
 fn main(rt: HostRuntime) -> ExitCode {
+    keep_freed_memory(rt.alloc());
     let status = status_of(&rt);
     if status.code() != 0 {
         if let Ok(line) = status.line(rt.alloc()) {

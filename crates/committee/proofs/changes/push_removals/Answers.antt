@@ -1,5 +1,5 @@
 use Rattle.std.proofs.Common.{arith}
-use Rattle.committee.specs.Create.{removal}
+use Rattle.committee.specs.Period.{removal}
 use Rattle.committee.proofs.Pushing.{pushed_more, pushed_all}
 use Rattle.committee.proofs.changes.push_removals.Goals as goal
 

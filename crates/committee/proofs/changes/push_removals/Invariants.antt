@@ -1,7 +1,7 @@
 use Rattle.std.proofs.Common.{◌≡◌, ◌≤◌, ◌-◌, ◌++◌, map}
 use Rattle.std.specs.List.{range_with_len}
 use Rattle.keyroom.specs.Changes.{changes_of}
-use Rattle.committee.specs.Create.{removal}
+use Rattle.committee.specs.Period.{removal}
 use Rattle.committee.proofs.changes.push_removals.Given as goal
 
 abbrev pub invariant-loop-index : goal.invariant-loop-index

@@ -2,7 +2,7 @@ use Rattle.std.proofs.Common.{◌≤◌, List, sym, subst, arith}
 use Rattle.drillbook.specs.declared.order.Order.{Order}
 use Rattle.drillbook.specs.Text.{named_among}
 use Rattle.keyroom.proofs.Refusals.{from_nothing}
-use Rattle.committee.proofs.Creating.{none_named}
+use Rattle.committee.proofs.Drills.{none_named}
 use Rattle.committee.proofs.drill.drill_of.Goals as goal
 
 pub returns-in_default-clause-few : goal.returns-in_default-clause-few

@@ -10,6 +10,9 @@ use Rattle.committee.proofs.top.plan.Goals as goal
 pub returns-in-Create-clause-meaning : goal.returns-in-Create-clause-meaning
 returns-in-Create-clause-meaning g c = rw c.in-Create.is c.plan_create.ensures.meaning
 
+pub returns-in-Refresh-clause-meaning : goal.returns-in-Refresh-clause-meaning
+returns-in-Refresh-clause-meaning g c = rw c.in-Refresh.is c.plan_refresh.ensures.meaning
+
 pub returns-in-Recover-clause-meaning : goal.returns-in-Recover-clause-meaning
 returns-in-Recover-clause-meaning g c =
     rw c.in-Recover.is (plans_told (MeansRecover c.in-Recover.name) (TakesSeeds (Recover c.in-Recover.name)) (g.H.Shelf.held c.args.shelf.now) (g.E.Entropy.coming c.args.entropy.now) _ _ c.plan_recover.result c.plan_recover.ensures.cause c.plan_recover.ensures.meaning)

@@ -1,12 +1,14 @@
-use Rattle.std.proofs.Common.{refl, arith}
+use Rattle.std.proofs.Common.{refl}
 use Rattle.keyroom.specs.Words.{texts}
 use Rattle.keyroom.specs.Commands.{command_of}
 use Rattle.keyroom.specs.Changes.{changes_of, outcome_of}
 use Rattle.std.specs.Prelude.{string_bytes}
 use Rattle.committee.specs.Meaning.{Means, AskForSeeds}
-use Rattle.committee.proofs.Doing.{if_told, does_then, read_under, refused_does, completes, written, never_rose, carries_no_entropy, usage_whole}
+use Rattle.committee.proofs.Doing.{if_told, does_then, read_under, refused_does, completes, written, never_rose, carries_no_entropy, usage_does, usage_whole}
 use Rattle.committee.proofs.Creating.{run_on_one_line, run_stopped}
 use Rattle.committee.proofs.Plain.{run_plain}
+use Rattle.committee.proofs.Kept.{run_by_one, run_keeps_the_key, unchanged_keeps}
+use Rattle.committee.proofs.MoveLaws.{run_moved, run_no_word, run_has_word, run_move_keeps_the_key, unchanged_move_keeps}
 use Rattle.committee.proofs.Recovery.{run_honestly, no_command}
 use Rattle.committee.proofs.top.run.Goals as goal
 
@@ -41,6 +43,24 @@ returns-in-Ok-clause-stopped g c = run_stopped (texts c.args.words.now) _ _ _ _ 
 pub returns-in-Ok-clause-plain : goal.returns-in-Ok-clause-plain
 returns-in-Ok-clause-plain g c = λ made. run_plain (texts c.args.words.now) _ _ _ _ c.carry_out.result _ _ (returns-in-Ok-clause-meaning g c) made
 
+pub returns-in-Ok-clause-refreshed : goal.returns-in-Ok-clause-refreshed
+returns-in-Ok-clause-refreshed g c = λ made. run_by_one (texts c.args.words.now) _ _ _ _ c.carry_out.result _ _ (returns-in-Ok-clause-meaning g c) (command_of c.in-Some.command) c.in-Some.ensures.found c.in-Ok.ensures.now made
+
+pub returns-in-Ok-clause-kept : goal.returns-in-Ok-clause-kept
+returns-in-Ok-clause-kept g c = run_keeps_the_key (texts c.args.words.now) _ _ _ _ c.carry_out.result _ _ (returns-in-Ok-clause-meaning g c) (command_of c.in-Some.command) c.in-Some.ensures.found c.in-Ok.ensures.now
+
+pub returns-in-Ok-clause-moved : goal.returns-in-Ok-clause-moved
+returns-in-Ok-clause-moved g c = λ made. run_moved (texts c.args.words.now) _ _ _ _ c.carry_out.result _ _ (returns-in-Ok-clause-meaning g c) (command_of c.in-Some.command) c.in-Some.ensures.found c.in-Ok.ensures.now made
+
+pub returns-in-Ok-clause-no_word : goal.returns-in-Ok-clause-no_word
+returns-in-Ok-clause-no_word g c = run_no_word (texts c.args.words.now) _ _ _ _ c.carry_out.result _ _ (returns-in-Ok-clause-meaning g c)
+
+pub returns-in-Ok-clause-word : goal.returns-in-Ok-clause-word
+returns-in-Ok-clause-word g c = run_has_word (texts c.args.words.now) _ _ _ _ c.carry_out.result _ _ (returns-in-Ok-clause-meaning g c)
+
+pub returns-in-Ok-clause-carried : goal.returns-in-Ok-clause-carried
+returns-in-Ok-clause-carried g c = run_move_keeps_the_key (texts c.args.words.now) _ _ _ _ c.carry_out.result _ _ (returns-in-Ok-clause-meaning g c) (command_of c.in-Some.command) c.in-Some.ensures.found c.in-Ok.ensures.now
+
 pub returns-in-Ok-clause-honest : goal.returns-in-Ok-clause-honest
 returns-in-Ok-clause-honest g c = run_honestly (texts c.args.words.now) _ _ _ _ c.carry_out.result _ _ (returns-in-Ok-clause-meaning g c)
 
@@ -66,11 +86,32 @@ returns-in-Err-clause-complete g c =
     does)
     (returns-in-Err-clause-meaning g c)
 
+pub returns-in-Err-clause-kept : goal.returns-in-Err-clause-kept
+returns-in-Err-clause-kept g c = unchanged_keeps (texts c.args.words.now) _ _ c.in-Err.ensures.reads.same
+
+pub returns-in-Err-clause-no_word : goal.returns-in-Err-clause-no_word
+returns-in-Err-clause-no_word g c = run_no_word (texts c.args.words.now) _ _ _ _ c.in-Err.status _ _ (returns-in-Err-clause-meaning g c)
+
+pub returns-in-Err-clause-word : goal.returns-in-Err-clause-word
+returns-in-Err-clause-word g c = run_has_word (texts c.args.words.now) _ _ _ _ c.in-Err.status _ _ (returns-in-Err-clause-meaning g c)
+
+pub returns-in-Err-clause-carried : goal.returns-in-Err-clause-carried
+returns-in-Err-clause-carried g c = unchanged_move_keeps (texts c.args.words.now) _ _ c.in-Err.ensures.reads.same
+
 pub returns-in-Err-clause-honest : goal.returns-in-Err-clause-honest
 returns-in-Err-clause-honest g c = run_honestly (texts c.args.words.now) _ _ _ _ c.in-Err.status _ _ (returns-in-Err-clause-meaning g c)
 
+pub returns-in_default-clause-meaning : goal.returns-in_default-clause-meaning
+returns-in_default-clause-meaning g c = usage_does (texts c.args.words.now) (g.H.Shelf.held c.args.shelf.now) (g.E.Entropy.coming c.args.entropy.now) (g.K.Sink.told c.args.out.now) c.in_default.ensures.none
+
 pub returns-in_default-clause-complete : goal.returns-in_default-clause-complete
 returns-in_default-clause-complete g c = usage_whole (texts c.args.words.now) (g.H.Shelf.held c.args.shelf.now) (g.E.Entropy.coming c.args.entropy.now) (g.K.Sink.told c.args.out.now) _ _ _ _ c.in_default.ensures.none
+
+pub returns-in_default-clause-kept : goal.returns-in_default-clause-kept
+returns-in_default-clause-kept g c = unchanged_keeps (texts c.args.words.now) (g.H.Shelf.held c.args.shelf.now) (g.H.Shelf.held c.args.shelf.now) refl
+
+pub returns-in_default-clause-carried : goal.returns-in_default-clause-carried
+returns-in_default-clause-carried g c = unchanged_move_keeps (texts c.args.words.now) (g.H.Shelf.held c.args.shelf.now) (g.H.Shelf.held c.args.shelf.now) refl
 
 pub returns-in_default-clause-honest : goal.returns-in_default-clause-honest
 returns-in_default-clause-honest g c =

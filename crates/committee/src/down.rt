@@ -1,0 +1,68 @@
+//! Who is down in a phase: marks of the members, from member 1.
+ghost use Rattle.std.specs.Prelude.{◌≡◌, ◌≤◌, ◌+◌, length, IfOk};
+ghost use Rattle.drillbook.specs.Orders.{names};
+ghost use Rattle.keyroom.specs.Sound.{is_down, is_down_in_move};
+ghost use Rattle.committee.specs.Phase.{marked, marks_of};
+
+use drillbook::Drill;
+use keyroom::{Found, is_down, is_down_in_move};
+use lists::OutOfMemory;
+use std::alloc::Global;
+
+/// Whether the member on a seat is marked.
+pub(crate) fn is_marked(marks: &[bool], seat: u32) -> bool
+    requires { 1 ≤ seat }
+    ensures { result ≡ marked marks.now seat }
+{
+    match marks.get((seat - 1) as usize) {
+        Some(mark) => *mark,
+        None => false,
+    }
+}
+
+/// Who of the members 1 to `n` is drilled.
+pub(crate) fn drilled_marks(alloc: Global, drill: &Drill, n: u32) -> Result<Vec<bool>, OutOfMemory>
+    requires { n ≤ 15 }
+    ensures { IfOk result (λ marks. marks.items ≡ marks_of (names drill.now) n) }
+{
+    let mut marks = Vec::new(alloc);
+    for seat in 1..n + 1 {
+        marks.push(drill.names(seat))?;
+    }
+    Ok(marks)
+}
+
+/// Who of the members 1 to `n`, whose share files these are, is drilled or has no valid share file.
+pub(crate) fn down_marks(
+    alloc: Global,
+    files: &[Found],
+    drill: &Drill,
+) -> Result<Vec<bool>, OutOfMemory>
+    requires { length files.now ≤ 15 }
+    ensures { IfOk result (λ marks. marks.items ≡ marks_of (is_down (names drill.now) files.now) (length files.now)) }
+{
+    let mut marks = Vec::new(alloc);
+    for seat in 1..files.len() as u32 + 1 {
+        marks.push(is_down(files, drill, seat))?;
+    }
+    Ok(marks)
+}
+
+/// Who of the new members 1 to `count` of a move, who sit behind the old ones, whose files these are, is drilled.
+pub(crate) fn new_marks(
+    alloc: Global,
+    files: &[Found],
+    drill: &Drill,
+    count: u32,
+) -> Result<Vec<bool>, OutOfMemory>
+    requires old { length files.now ≤ 15 }
+    requires new { count ≤ 15 }
+    ensures { IfOk result (λ marks. marks.items ≡ marks_of (λ j. is_down_in_move (names drill.now) files.now (length files.now + j)) count) }
+{
+    let mut marks = Vec::new(alloc);
+    let shift = files.len() as u32;
+    for member in 1..count + 1 {
+        marks.push(is_down_in_move(files, drill, shift + member))?;
+    }
+    Ok(marks)
+}

@@ -1,0 +1,118 @@
+//! The command `refresh NAME`, with or without a drill.
+ghost use Rattle.std.specs.Prelude.{◌≡◌, ◌≤◌, ◌*◌, ℕ, List, length, string_bytes, IfOk, IfSome, IfErr};
+ghost use Rattle.shelf.specs.Causes.{OnlyReads};
+ghost use Rattle.drillbook.specs.Orders.{AllLawful};
+ghost use Rattle.keyroom.specs.Causes.{IsFromPlan};
+ghost use Rattle.keyroom.specs.Outcome.{AnswersStep};
+ghost use Rattle.keyroom.specs.Commands.{text_of};
+ghost use Rattle.keyroom.specs.Texts.{refresh_text};
+ghost use Rattle.keyroom.specs.Words.{Refresh};
+ghost use Rattle.committee.specs.Answer.{PlansWith};
+ghost use Rattle.committee.specs.Causes.{before_text, IsFromCommand, IsFromEntropy};
+ghost use Rattle.committee.specs.Refresh.{refresh_asked, setting_of, Refreshes};
+ghost use Rattle.committee.specs.Standing.{seeds_for};
+ghost use Rattle.committee.specs.Kept.{ReadsNow};
+ghost use Rattle.committee.specs.Meaning.{MeansSome, TakesSeeds, AreEnoughFor};
+ghost use Rattle.committee.specs.Phase.{indexes_of, standing_of, IsReady, IsRefreshPlan};
+
+use crate::changes::{indexes_of, next_changes};
+use crate::down::down_marks;
+use crate::holders::next_now;
+use crate::phase::Phase;
+use crate::refresh_phase::run_refresh;
+use crate::seeds::seeds_of;
+use crate::standing::{Asked, standing_at, valid_count};
+use keyroom::{Plan, Status, now_of, refresh_text};
+use lists::OutOfMemory;
+use sharefile::{KeyName, NowFile};
+use shelf::{Entropy, Shelf};
+use sizes::LANES;
+use std::alloc::Global;
+use talk::Setting;
+
+/// What a refresh finds on the shelf. It refuses as `now_of` and `standing_at` do.
+fn asked_of<H: Shelf>(
+    alloc: Global,
+    name: &KeyName,
+    drill: Option<&str>,
+    shelf: &mut H,
+) -> Result<Asked, Status>
+    ensures reads { OnlyReads H.held H.fault_count H.calm shelf.old shelf.new }
+    ensures gives { IfSome (H.held shelf.old) (λ m. AnswersStep standing_of result (refresh_asked name.now (text_of drill.entry) m)) }
+    ensures ready { IfOk result (λ asked. IsReady (standing_of asked)) }
+    ensures lines { IfOk result (λ asked. AllLawful (setting_of (standing_of asked)) asked.drill) }
+    ensures cause { IfErr result (IsFromPlan (H.fault_count shelf.old) (H.fault_count shelf.new)) }
+{
+    let now = now_of(alloc, name, shelf)?;
+    let setting = Setting::refresh(now.n, now.t);
+    let asked = standing_at(alloc, now, drill, &setting, shelf)?;
+    Ok(asked)
+}
+
+/// What is printed of a refresh.
+fn refreshed_text(alloc: Global, now: &NowFile, phase: &Phase) -> Result<String, OutOfMemory>
+    requires { length phase.now.shares.items ≤ 15 }
+    ensures { IfOk result (λ s. string_bytes s ≡ refresh_text now.now phase.now.masks phase.now.accepted (5 * now.now.n) (indexes_of 1 phase.now.shares.items)) }
+{
+    let indexes = indexes_of(alloc, &phase.shares)?;
+    refresh_text(
+        alloc,
+        now,
+        &phase.masks,
+        phase.accepted,
+        LANES * now.n,
+        &indexes,
+    )
+}
+
+/// The plan, with the seeds known.
+fn plan_of(alloc: Global, asked: &Asked, seeds: &[[u8; 32]]) -> Result<Plan, OutOfMemory>
+    requires ready { IsReady (standing_of asked.now) }
+    requires lines { AllLawful (setting_of (standing_of asked.now)) asked.now.drill }
+    requires seeds { length seeds.now ≡ seeds_for (standing_of asked.now) }
+    ensures { IfOk result (IsRefreshPlan (standing_of asked.now) seeds.now) }
+{
+    let down = down_marks(alloc, &asked.files, &asked.drill)?;
+    let now = next_now(&asked.file, &down);
+    let phase = run_refresh(alloc, asked, &down, seeds)?;
+    let changes = next_changes(alloc, &asked.file, &now, &phase.shares)?;
+    let text = refreshed_text(alloc, &now, &phase)?;
+    Ok(Plan { changes, text })
+}
+
+/// The plan of a refresh, with what it finds known: it takes a seed for each valid share file, and runs the phase.
+fn plan_with<E: Entropy>(alloc: Global, asked: &Asked, entropy: &mut E) -> Result<Plan, Status>
+    requires ready { IsReady (standing_of asked.now) }
+    requires lines { AllLawful (setting_of (standing_of asked.now)) asked.now.drill }
+    ensures meaning { PlansWith (λ o. (masks : List ℕ) × Refreshes (E.coming entropy.old) masks (standing_of asked.now) o) (λ count. count ≡ seeds_for (standing_of asked.now)) (E.coming entropy.old) (E.coming entropy.new) result }
+    ensures later { E.fault_count entropy.old ≤ E.fault_count entropy.new }
+    ensures cause { IfErr result (IsFromEntropy (E.fault_count entropy.old) (E.fault_count entropy.new)) }
+    ensures calm { E.calm entropy.old → IfSome (E.coming entropy.old) (λ seeds. seeds_for (standing_of asked.now) ≤ length seeds) → E.calm entropy.new }
+{
+    let count = valid_count(&asked.files);
+    let seeds = seeds_of(alloc, count, entropy)?;
+    let plan = plan_of(alloc, asked, &seeds)?;
+    Ok(plan)
+}
+
+/// What `refresh NAME` will do, under the drill in the file that is named, if one is. It refuses as `asked_of` does, and
+/// with `EntropyFault` where a seed could not be had.
+pub(crate) fn plan_refresh<H: Shelf, E: Entropy>(
+    alloc: Global,
+    name: &KeyName,
+    drill: Option<&str>,
+    shelf: &mut H,
+    entropy: &mut E,
+) -> Result<Plan, Status>
+    ensures reads { OnlyReads H.held H.fault_count H.calm shelf.old shelf.new }
+    ensures meaning { IfSome (H.held shelf.old) (λ m.
+        PlansWith (MeansSome (Refresh name.now (text_of drill.entry)) (record { held = m; coming = E.coming entropy.old }))
+        (TakesSeeds (Refresh name.now (text_of drill.entry)) m) (E.coming entropy.old) (E.coming entropy.new) result) }
+    ensures later { E.fault_count entropy.old ≤ E.fault_count entropy.new }
+    ensures cause { IfErr result (IsFromCommand (before_text (H.fault_count shelf.old) (E.fault_count entropy.old)) (before_text (H.fault_count shelf.new) (E.fault_count entropy.new))) }
+    ensures calm { E.calm entropy.old → AreEnoughFor (Refresh name.now (text_of drill.entry)) (H.held shelf.old) (E.coming entropy.old) → E.calm entropy.new }
+    ensures now { IfOk result (λ _. IfSome (H.held shelf.old) (ReadsNow (Refresh name.now (text_of drill.entry)))) }
+{
+    let asked = asked_of(alloc, name, drill, shelf)?;
+    plan_with(alloc, &asked, entropy)
+}
