@@ -7,13 +7,13 @@
 
 The first form writes the cases to the file STDIN and what must become of them to the file STDOUT. `--without` leaves
 features out, parted by commas, for an implementation that has fewer: `sizes` (create with other sizes than 4 1), `drills`,
-`seal` (seal and open). `--only WORD` writes the cases whose label has the word in it. The second form writes the sample
-shelves whose files are of version 2 into the folder. The third form computes values that others published or worked out
-by hand, and says whether they come out.
+`seal` (seal and open), `refresh`, `move`. `--only WORD` writes the cases whose label has the word in it. The second form
+writes the sample shelves whose files are of version 2 into the folder. The third form computes values that others
+published or worked out by hand, and says whether they come out.
 
 Nothing here is taken from the product: ChaCha20 is written from RFC 8439, SHA-256 and HMAC are Python's, a decoder tries
-the polynomials through each few points, and a create is played seat by seat by the rules of the sharing. The same input
-gives the same output on each machine.
+the polynomials through each few points, the errors of a move are found by trying each few places, and a phase is played
+seat by seat by the rules of the sharing. The same input gives the same output on each machine.
 """
 
 import hashlib
@@ -61,6 +61,50 @@ def nearest(values, degree):
         wrong = sum(value_at(poly, place) != value for place, value in present)
         if 2 * wrong <= room:
             return poly
+    return None
+
+
+# The parity check of n points with bound t, and what is wrong by a syndrome.
+
+
+def check_rows(n, t):
+    """H[m][i - 1] = w_i * i^m, where w_i is 1 divided by the product of i - j over the other points j."""
+    weights = []
+    for i in range(1, n + 1):
+        product = 1
+        for j in range(1, n + 1):
+            if j != i:
+                product = product * (i - j) % P
+        weights.append(pow(product, P - 2, P))
+    return [[weight * pow(i, m, P) % P for i, weight in enumerate(weights, 1)] for m in range(n - t - 1)]
+
+
+def syndrome_of(values, t):
+    return [sum(a * b for a, b in zip(row, values)) % P for row in check_rows(len(values), t)]
+
+
+def solved(rows, right):
+    """The numbers whose products with the columns add up to the right side, or None. The columns are independent."""
+    rows, count = [list(row) + [value] for row, value in zip(rows, right)], len(rows[0])
+    for column in range(count):
+        pivot = next(at for at in range(column, len(rows)) if rows[at][column])
+        rows[column], rows[pivot] = rows[pivot], rows[column]
+        scale = pow(rows[column][column], P - 2, P)
+        rows[column] = [value * scale % P for value in rows[column]]
+        for at, row in enumerate(rows):
+            if at != column:
+                rows[at] = [(a - row[column] * b) % P for a, b in zip(row, rows[column])]
+    return None if any(row[count] for row in rows[count:]) else [row[count] for row in rows[:count]]
+
+
+def error_of(syndrome, n, t):
+    """The vector with at most t entries other than 0 that has this syndrome, or None: each t places are tried."""
+    rows = check_rows(n, t)
+    for places in itertools.combinations(range(n), t):
+        found = solved([[row[place] for place in places] for row in rows], syndrome)
+        if found is not None:
+            error = dict(zip(places, found))
+            return [error.get(place, 0) for place in range(n)]
     return None
 
 
@@ -117,6 +161,16 @@ def drawn_grids(seed, degree):
     words = chacha_words(seed)
     size = degree + 1
     return [[[drawn(words) for _ in range(size)] for _ in range(size)] for _ in range(5)]
+
+
+def grids_with(constants, seed, degree):
+    """The five grids with these constants; all other coefficients are drawn."""
+    words = chacha_words(seed)
+    size = degree + 1
+    return [
+        [[drawn(words) if (a, b) != (0, 0) else constant for b in range(size)] for a in range(size)]
+        for constant in constants
+    ]
 
 
 def row_of(grid, j):
@@ -318,67 +372,110 @@ def plain_number(word, above):
     return int(word) if int(word) < above else None
 
 
-def argument_of(n, party, round_number, verb, words):
-    """What a verb is given in a create, as a list of at most one number; None where the line isn't one of the table."""
+class Setting:
+    """A phase: who deals and who receives. Dealer i is on seat i, receiver j on seat shift + j."""
+
+    def __init__(self, receivers, bound, degree, dealers, shift=0, checks=0):
+        self.receivers, self.bound, self.degree = receivers, bound, degree
+        self.dealers, self.shift, self.checks = dealers, shift, checks
+        self.seats, self.rounds, self.instances = shift + receivers, 6 if checks else 5, 5 * dealers
+
+    def deals(self, seat):
+        return seat <= self.dealers
+
+    def receives(self, seat):
+        return seat > self.shift
+
+
+def create_setting(n, t):
+    return Setting(n, t, t, n)
+
+
+def refresh_setting(n, t):
+    return Setting(n, t, t - 1, n)
+
+
+def move_setting(n, t, m, u):
+    return Setting(m, u, u, n, n, n - t - 1)
+
+
+def has_verb(setting, party, round_number, verb):
+    """Whether the verb stands in the table for the seat and the round."""
+    if verb == b"skew":
+        dealing, receiving = round_number in (1, 4), round_number in (2, 6)
+        return dealing and setting.deals(party) or receiving and setting.receives(party)
+    if verb == b"wrong":
+        return round_number == 1 and setting.shift > 0 and setting.deals(party)
+    return setting.receives(party) and round_number == {b"accuse": 3, b"veto": 5}[verb]
+
+
+def argument_of(setting, party, round_number, verb, words):
+    """What a verb is given, as a list of at most one number; None where the line isn't one of the table."""
     if verb in PLAIN_VERBS:
         return [] if not words else None
-    if verb == b"veto":
-        return [] if round_number == 5 and not words else None
-    if len(words) != 1:
+    if not has_verb(setting, party, round_number, verb) or len(words) != (verb != b"veto"):
         return None
-    if verb == b"skew" and round_number in (1, 2, 4):
-        number = plain_number(words[0], P)
-        return None if number is None else [number]
-    if verb == b"accuse" and round_number == 3:
-        number = plain_number(words[0], n + 1)
-        return [number] if number and number != party else None
-    return None
+    if verb == b"veto":
+        return []
+    if verb == b"accuse":
+        number = plain_number(words[0], setting.receivers + 1)
+        return [number] if number and setting.shift + number != party else None
+    number = plain_number(words[0], P)
+    return None if number is None else [number]
 
 
-def drill_line(n, words, drill):
+def drill_line(setting, words, drill):
     """Reads a line of a drill into the drill. The answer is None, `line` or the number of a stranger."""
     if len(words) not in (3, 4) or not all(words):
         return "line"
     party, round_number = (plain_number(word, 2**64) for word in words[:2])
     if party is None or round_number is None or words[2] not in VERBS:
         return "line"
-    if not 1 <= party <= n:
+    if not 1 <= party <= setting.seats:
         return party
-    if not 1 <= round_number <= 5 or (party, round_number) in drill:
+    if not 1 <= round_number <= setting.rounds or (party, round_number) in drill:
         return "line"
-    argument = argument_of(n, party, round_number, words[2], words[3:])
+    argument = argument_of(setting, party, round_number, words[2], words[3:])
     if argument is None:
         return "line"
     drill[party, round_number] = (words[2].decode(), *argument)
     return None
 
 
-def read_drill(text, n, t):
-    """The verb and its argument by party and round, for a create."""
+def read_drill(text, setting, bounds):
+    """The verb and its argument by party and round. `bounds` has the seats and the bound of each committee in turn."""
     drill = {}
     lines = text.split(b"\n")
     for number, line in enumerate(lines, 1):
         if line and not line.startswith(b"#"):
-            fault = drill_line(n, line.split(b" "), drill)
+            fault = drill_line(setting, line.split(b" "), drill)
             if fault == "line":
                 raise Refused(9, f"drill line {number}")
             if fault is not None:
                 raise Refused(9, f"drill stranger {fault}")
-    named = len({party for party, _ in drill})
-    if named > t:
-        raise Refused(9, f"drill named {named} bound {t}")
+    for seats, bound in bounds:
+        named = len({party for party, _ in drill if party in seats})
+        if named > bound:
+            raise Refused(9, f"drill named {named} bound {bound}")
     return drill
 
 
-# One seat of a create. A post is None (nothing), or a value of the round's shape; so is a ring message. Instances are
-# numbered from 0: the dealer's number less one, times five, plus the lane.
+# One seat of a sharing. A post is None (nothing), or a value of the round's shape; so is a ring message. Instances are
+# numbered from 0: the dealer's number less one, times five, plus the lane. A dealer has grids, a receiver its number `me`.
 
 
 class Seat:
-    def __init__(self, n, t, me, seed):
-        self.n, self.t, self.me = n, t, me
-        self.grids = drawn_grids(seed, t)
-        self.zero = [0] * (t + 1)
+    def __init__(self, setting, number, grids):
+        self.setting, self.number, self.grids = setting, number, grids
+        self.me = number - setting.shift if setting.receives(number) else None
+        self.zero = [0] * (setting.degree + 1)
+
+    def receivers(self):
+        return range(1, self.setting.receivers + 1)
+
+    def of_receivers(self, heard):
+        """What is heard by receiver, of what is heard by seat."""
+        return {j: heard[self.setting.shift + j] for j in self.receivers()}
 
     # What it says.
 
@@ -393,7 +490,7 @@ class Seat:
         """The pair of values that it holds, by instance and the receiver that it complains of."""
         found = {}
         for instance, (row, column) in enumerate(self.held):
-            for k in range(1, self.n + 1):
+            for k in self.receivers():
                 own = (value_at(row, k), value_at(column, k))
                 told = own if k == self.me else self.crossed[k] and self.crossed[k][instance]
                 if told != (own[1], own[0]):
@@ -404,8 +501,8 @@ class Seat:
         """The row and the column, by lane and receiver."""
         found = {}
         for lane, grid in enumerate(self.grids):
-            instance = (self.me - 1) * 5 + lane
-            for j in range(1, self.n + 1):
+            instance = (self.number - 1) * 5 + lane
+            for j in self.receivers():
                 row, column = row_of(grid, j), column_of(grid, j)
                 for (where, k), told in self.heard_complaints[j].items():
                     if where == instance and told != (value_at(row, k), value_at(column, k)):
@@ -413,7 +510,7 @@ class Seat:
         return found
 
     def votes(self):
-        return [self.votes_for(instance) for instance in range(5 * self.n)]
+        return [self.votes_for(instance) for instance in range(self.setting.instances)]
 
     def votes_for(self, instance):
         revealed = self.revealed(instance)
@@ -424,7 +521,7 @@ class Seat:
             fits = (value_at(its_column, self.me), value_at(its_row, self.me))
             if fits != (value_at(row, k), value_at(column, k)):
                 return False
-        quiet = [k for k in range(1, self.n + 1) if k not in revealed]
+        quiet = [k for k in self.receivers() if k not in revealed]
         return all(self.is_settled(instance, k, j) for k in quiet for j in quiet)
 
     def is_settled(self, instance, k, j):
@@ -437,56 +534,86 @@ class Seat:
         dealer, lane = instance // 5 + 1, instance % 5
         return {j: pair for (where, j), pair in self.heard_reveals[dealer].items() if where == lane}
 
+    def syndromes(self):
+        """Lane by lane the syndrome of what it has of the dealers."""
+        bound = self.setting.dealers - self.setting.checks - 1
+        return [value for lane in range(5) for value in syndrome_of(self.parts(lane), bound)]
+
     # What it hears: by seat, for each seat, with None for what isn't there.
 
     def hear_deals(self, deals):
-        deals[self.me] = self.deal_for(self.me)
-        nothing = [(self.zero, self.zero)] * 5
-        self.held = [pair for i in range(1, self.n + 1) for pair in deals[i] or nothing]
+        if self.me is not None:
+            nothing = [(self.zero, self.zero)] * 5
+            if self.grids:
+                deals[self.number] = self.deal_for(self.me)
+            self.held = [pair for i in range(1, self.setting.dealers + 1) for pair in deals[i] or nothing]
 
     def hear_crosses(self, crosses):
-        self.crossed = crosses
+        self.crossed = self.of_receivers(crosses)
 
     def hear_complaints(self, posts):
-        self.heard_complaints = {seat: post or {} for seat, post in posts.items()}
+        self.heard_complaints = {j: post or {} for j, post in self.of_receivers(posts).items()}
 
     def hear_reveals(self, posts):
         self.heard_reveals = {seat: post or {} for seat, post in posts.items()}
 
     def hear_votes(self, posts):
+        needed = self.setting.receivers - self.setting.bound
+        heard = self.of_receivers(posts).values()
         self.accepted = [
-            sum(bool(votes and votes[instance]) for votes in posts.values()) >= self.n - self.t
-            for instance in range(5 * self.n)
+            sum(bool(votes and votes[instance]) for votes in heard) >= needed
+            for instance in range(self.setting.instances)
         ]
+
+    def hear_syndromes(self, posts):
+        self.heard_syndromes = self.of_receivers(posts)
 
     # What comes of it.
 
+    def share_in(self, instance):
+        """Its share of an instance: 0 where it isn't accepted."""
+        if not self.accepted[instance]:
+            return 0
+        row = self.held[instance][0]
+        return self.revealed(instance).get(self.me, (row, None))[0][0]
+
+    def parts(self, lane):
+        """Its shares of a lane, by dealer."""
+        return [self.share_in(instance) for instance in range(lane, self.setting.instances, 5)]
+
     def shares(self):
-        lanes = [0] * 5
-        for instance, (row, _) in enumerate(self.held):
-            if self.accepted[instance]:
-                row = self.revealed(instance).get(self.me, (row, None))[0]
-                lanes[instance % 5] = (lanes[instance % 5] + row[0]) % P
-        return lanes
+        return [sum(self.parts(lane)) % P for lane in range(5)]
+
+    def opened(self, lane):
+        """The opened syndrome of a lane: at each place the value at 0 of what the receivers posted."""
+        checks = self.setting.checks
+        return [
+            nearest([post and post[lane * checks + m] for post in self.heard_syndromes.values()], self.setting.degree)[0]
+            for m in range(checks)
+        ]
 
 
 # What a seat says in a round: a post, and a message for each other seat.
 
 
 def honest_word(seat, round_number):
-    others = [j for j in range(1, seat.n + 1) if j != seat.me]
+    others = [j for j in seat.receivers() if j != seat.me]
     if round_number == 1:
-        return None, {j: seat.deal_for(j) for j in others}
+        return None, {j: seat.deal_for(j) for j in others if seat.grids}
     if round_number == 2:
-        return None, {j: seat.cross_for(j) for j in others}
-    post = (seat.complaints, seat.reveals, seat.votes)[round_number - 3]()
+        return None, {j: seat.cross_for(j) for j in others if seat.me}
+    if not (seat.grids if round_number == 4 else seat.me):
+        return None, {}
+    post = (seat.complaints, seat.reveals, seat.votes, seat.syndromes)[round_number - 3]()
     return post, {}
 
 
 def skewed(word, round_number, lowest, k):
     """The word with k added: to the constants of the rows dealt to the lowest other receiver, to the first values of the
-    pairs for it, or to the constants of the rows that are revealed."""
+    pairs for it, to the constants of the rows that are revealed, or to all values of the syndromes."""
     post, rings = word
+    if round_number == 6:
+        return [(value + k) % P for value in post], rings
     if round_number == 1:
         dealt = [([(row[0] + k) % P] + row[1:], column) for row, column in rings[lowest]]
         return post, {**rings, lowest: dealt}
@@ -515,16 +642,27 @@ def drilled_word(seat, round_number, verb, argument):
         return skewed((post, rings), round_number, 2 if seat.me == 1 else 1, argument[0])
     if verb == "accuse":
         return accusing(seat, post, argument[0]), rings
-    return [False] * (5 * seat.n), rings
+    if verb == "wrong":
+        # Its grids are other ones from the start.
+        return post, rings
+    return [False] * seat.setting.instances, rings
 
 
-HEARD_IN = (Seat.hear_deals, Seat.hear_crosses, Seat.hear_complaints, Seat.hear_reveals, Seat.hear_votes)
+HEARD_IN = (
+    Seat.hear_deals,
+    Seat.hear_crosses,
+    Seat.hear_complaints,
+    Seat.hear_reveals,
+    Seat.hear_votes,
+    Seat.hear_syndromes,
+)
 
 
-def play(seats, drill):
-    """Plays the five rounds of a create. The answer is the masks. Who isn't in a mask is out from then on."""
+def play(setting, seats, drill):
+    """Plays the rounds of a phase. A seat that isn't among the seats given passes in every round. The answer is the masks.
+    Who isn't in a mask is out from then on."""
     masks, alive = [], list(seats)
-    for round_number in range(1, 6):
+    for round_number in range(1, setting.rounds + 1):
         words = {}
         for me in alive:
             line = drill.get((me, round_number))
@@ -535,12 +673,12 @@ def play(seats, drill):
                 words[me] = word
         alive = list(words)
         masks.append(sum(1 << (me - 1) for me in alive))
-        for me in seats:
+        for seat in seats.values():
             if round_number < 3:
-                heard = {i: words[i][1].get(me) if i in words else None for i in seats}
+                rings = {i: word[1].get(seat.me) for i, word in words.items()}
             else:
-                heard = {i: words[i][0] if i in words else None for i in seats}
-            HEARD_IN[round_number - 1](seats[me], heard)
+                rings = {i: word[0] for i, word in words.items()}
+            HEARD_IN[round_number - 1](seat, {i: rings.get(i) for i in range(1, setting.seats + 1)})
     return masks
 
 
@@ -603,14 +741,21 @@ def now_of(world, name):
     return now
 
 
-def recovered(world, now):
-    """The key and the states of the members."""
+def shares_held(world, now):
+    """The members' share files, and the lanes of each that is valid."""
     name, n, t, period, _, link = now
     committee = link.committee if link else None
     files = [world.get(share_name(name, period, index)) for index in range(1, n + 1)]
     lanes_of = [
         data and read_share(data, name, n, t, index, period, committee) for index, data in enumerate(files, 1)
     ]
+    return files, lanes_of
+
+
+def recovered(world, now):
+    """The key and the states of the members."""
+    _, _, t, _, _, _ = now
+    files, lanes_of = shares_held(world, now)
     polys = []
     for lane in range(5):
         poly = nearest([lanes[lane] if lanes else None for lanes in lanes_of], t)
@@ -647,29 +792,139 @@ def check(world, name):
     return recover(world, name, "check")
 
 
+def drill_held(world, drill_name, setting, bounds):
+    """The drill that is named, where one is."""
+    if drill_name is None:
+        return {}
+    text = world.get(drill_name)
+    if text is None:
+        raise Refused(3, "nosuch drill")
+    return read_drill(text, setting, bounds)
+
+
+def undrilled(drill, seats):
+    named = {party for party, _ in drill}
+    return [seat for seat in seats if seat not in named]
+
+
+def removals(name, period):
+    return [(share_name(name, period, index), None) for index in range(1, 16)]
+
+
+def files_of(now, shares):
+    """The puts of a period: the share file of each index that has shares, then the now file."""
+    name, n, t, period, _, link = now
+    puts = [
+        (share_name(name, period, index), share_bytes(name, n, t, index, period, lanes, link.committee))
+        for index, lanes in shares.items()
+    ]
+    return puts + [(name + ".now", now_bytes(*now))]
+
+
+def phase_texts(masks, accepted):
+    texts = [f"round {number} mask {mask}" for number, mask in enumerate(masks, 1)]
+    return texts + [f"accepted {sum(accepted)} of {len(accepted)}"]
+
+
+def indexes_text(word, indexes):
+    return " ".join([word, *map(str, indexes)])
+
+
 def create(world, name, n, t, drill_name=None):
     if world.get(name + ".now") is not None:
         raise Refused(4, "exists")
-    drill = {}
-    if drill_name is not None:
-        text = world.get(drill_name)
-        if text is None:
-            raise Refused(3, "nosuch drill")
-        drill = read_drill(text, n, t)
-    seats = {me: Seat(n, t, me, world.seed()) for me in range(1, n + 1)}
-    masks = play(seats, drill)
-    sound = [me for me in seats if all(party != me for party, _ in drill)]
-    changes = [(share_name(name, 1, index), None) for index in range(1, 16)]
-    link = link_of(name, n, t, 1, mask_of(sound))
-    for me in sound:
-        data = share_bytes(name, n, t, me, 1, seats[me].shares(), link.committee)
-        changes.append((share_name(name, 1, me), data))
-    changes.append((name + ".now", now_bytes(name, n, t, 1, 0, link)))
-    texts = [f"create {name} {n} {t} period 1"]
-    texts += [f"round {number} mask {mask}" for number, mask in enumerate(masks, 1)]
-    texts.append(f"accepted {sum(seats[sound[0]].accepted)} of {5 * n}")
-    texts.append("shares " + " ".join(map(str, sound)))
-    return changes, lines(texts)
+    setting = create_setting(n, t)
+    drill = drill_held(world, drill_name, setting, [(range(1, n + 1), t)])
+    seats = {me: Seat(setting, me, drawn_grids(world.seed(), t)) for me in range(1, n + 1)}
+    masks = play(setting, seats, drill)
+    sound = undrilled(drill, seats)
+    now = name, n, t, 1, 0, link_of(name, n, t, 1, mask_of(sound))
+    changes = removals(name, 1) + files_of(now, {me: seats[me].shares() for me in sound})
+    texts = [f"create {name} {n} {t} period 1", *phase_texts(masks, seats[sound[0]].accepted)]
+    return changes, lines(texts + [indexes_text("shares", sound)])
+
+
+class Before:
+    """What a refresh and a move find: the now file, the drill and the valid share files, by index."""
+
+    def __init__(self, world, name, drill_name, setting_of, new=None):
+        self.now = now_of(world, name)
+        self.name, self.n, self.t, self.period, self.next_number, self.link = self.now
+        _, lanes_of = shares_held(world, self.now)
+        self.lanes = {index: lanes for index, lanes in enumerate(lanes_of, 1) if lanes}
+        self.setting = setting_of(self.n, self.t)
+        bounds = [(range(1, self.n + 1), self.t)]
+        if new:
+            bounds.append((range(self.n + 1, self.setting.seats + 1), new[1]))
+        self.drill = drill_held(world, drill_name, self.setting, bounds)
+        self.sound = undrilled(self.drill, self.lanes)
+        if len(self.sound) < self.n - self.t:
+            raise Refused(5, f"sound {len(self.sound)} needed {self.n - self.t}")
+        if self.period == 2**32 - 1:
+            raise Refused(8, f"full {self.period}")
+        self.seeds = {index: world.seed() for index in self.lanes}
+
+    def changes(self, n, t, shares):
+        """To the next period, with these members and shares."""
+        name, period = self.name, self.period
+        previous = self.link.committee if self.link else NO_DIGEST
+        link = link_of(name, n, t, period + 1, mask_of(shares), previous)
+        puts = files_of((name, n, t, period + 1, self.next_number, link), shares)
+        return removals(name, period - 1) + removals(name, period + 1) + puts + removals(name, period)
+
+
+def refresh(world, name, drill_name=None):
+    before = Before(world, name, drill_name, refresh_setting)
+    seats = {
+        me: Seat(before.setting, me, drawn_grids(seed, before.setting.degree)) for me, seed in before.seeds.items()
+    }
+    masks = play(before.setting, seats, before.drill)
+    shares = {
+        me: [(old + me * dealt) % P for old, dealt in zip(before.lanes[me], seats[me].shares())]
+        for me in before.sound
+    }
+    changes = before.changes(before.n, before.t, shares)
+    texts = [f"refresh {name} {before.n} {before.t} period {before.period + 1}"]
+    texts += phase_texts(masks, seats[before.sound[0]].accepted)
+    return changes, lines(texts + [indexes_text("shares", shares)])
+
+
+def moved_seats(before):
+    """The seats of a move: who has a share deals it, and all new members receive."""
+    setting, seats = before.setting, {}
+    for me, seed in before.seeds.items():
+        verb, *argument = before.drill.get((me, 1), (None,))
+        added = argument[0] if verb == "wrong" else 0
+        constants = [(lane + added) % P for lane in before.lanes[me]]
+        seats[me] = Seat(setting, me, grids_with(constants, seed, setting.degree))
+    for seat in range(setting.shift + 1, setting.seats + 1):
+        seats[seat] = Seat(setting, seat, None)
+    return seats
+
+
+def moved_shares(before, seat, errors):
+    """What a new member makes of its parts, less the errors: the value at 0 through the first T + 1 of them."""
+    right = [[(part - wrong) % P for part, wrong in zip(seat.parts(lane), errors[lane])] for lane in range(5)]
+    return [through(list(enumerate(parts[: before.t + 1], 1)))[0] for parts in right]
+
+
+def move(world, name, m, u, drill_name=None):
+    before = Before(world, name, drill_name, lambda n, t: move_setting(n, t, m, u), (m, u))
+    n, seats = before.n, moved_seats(before)
+    masks = play(before.setting, seats, before.drill)
+    sound = undrilled(before.drill, range(n + 1, n + m + 1))
+    first, errors = seats[sound[0]], []
+    for lane in range(5):
+        syndrome = first.opened(lane)
+        errors.append(error_of(syndrome, n, before.t))
+        if errors[lane] is None:
+            raise Refused(6, indexes_text(f"lane {lane} syndrome", syndrome))
+    shares = {seat - n: moved_shares(before, seats[seat], errors) for seat in sound}
+    corrected = [index for index in range(1, n + 1) if any(error[index - 1] for error in errors)]
+    texts = [f"move {name} {n} {before.t} to {m} {u} period {before.period + 1}"]
+    texts += phase_texts(masks, first.accepted)
+    texts.append(indexes_text("corrected", corrected or ["none"]))
+    return before.changes(m, u, shares), lines(texts + [indexes_text("shares", shares)])
 
 
 def seal(world, name, doc_name, box_name):
@@ -710,22 +965,25 @@ def is_file_word(word):
     return 1 <= len(data) <= 255 and not word.startswith("-") and "\0" not in word and not ends
 
 
-def create_words(rest):
+def sized_words(command, rest):
+    """A create or a move: a name, a size and a bound, and perhaps a drill."""
     if len(rest) not in (3, 4) or not is_name(rest[0]):
         return None
     n, t = (plain_number(word.encode(), 100) for word in rest[1:3])
     if n not in SIZES or t is None or not is_bound(n, t) or not all(map(is_file_word, rest[3:])):
         return None
-    return lambda world: create(world, rest[0], n, t, *rest[3:])
+    return lambda world: command(world, rest[0], n, t, *rest[3:])
 
 
 def command_of(words):
     """The command that these words are, or None."""
     first, rest = (words[0], words[1:]) if words else ("", [])
-    if first == "create":
-        return create_words(rest)
+    if first in ("create", "move"):
+        return sized_words({"create": create, "move": move}[first], rest)
     if not rest or not is_name(rest[0]):
         return None
+    if first == "refresh" and len(rest) <= 2 and all(map(is_file_word, rest[1:])):
+        return lambda world: refresh(world, *rest)
     if first in ("recover", "check") and len(rest) == 1:
         return lambda world: {"recover": recover, "check": check}[first](world, rest[0])
     if first in ("seal", "open") and len(rest) == 3 and all(map(is_file_word, rest[1:])):
@@ -762,7 +1020,7 @@ class Case:
 
     def features(self):
         """What has to be built for this case."""
-        found, words = set(), self.words
+        found, words = {word for word in ("refresh", "move") if self.label.startswith(word)}, self.words
         if command_of(words) is not None:
             if words[0] == "create" and words[2:4] != ["4", "1"]:
                 found.add("sizes")
@@ -1477,6 +1735,267 @@ def open_cases():
     yield Case("open_sink_fails_0", "open k1 box out", Key(4, 1).plus(box=box).files, sink=[0])
 
 
+def tied_key(n, t, period=3, next_number=7, **more):
+    """A key whose files are of version 2, with a committee before."""
+    before = committee_digest("k1", n, t, period - 1, 2**n - 1, NO_DIGEST)
+    return Key(n, t, period=period, next_number=next_number, version=2, previous=before, **more)
+
+
+def stray_files(period):
+    """Files beside a key of this period: those that a step to the next period removes, and those that it keeps."""
+    names = []
+    for at in (period - 1, period, period + 1):
+        names += [share_name("k1", at, index) for index in (2, 9, 15, 16)] + [f"k1.{at}.03.share"]
+    names += [share_name("k1", period - 2, 1), share_name("k1", period + 2, 1), share_name("k2", period, 1)]
+    return {name: b"left" for name in [*names, "k2.now", "k1.now2", "letter.txt"]}
+
+
+def step_cases(words, label, rounds):
+    """What a refresh and a move of 4 members have in common: refusals, what is left, and an outside that fails."""
+    key, seeds = tied_key(4, 1), seeds_for(label, 4)
+    yield Case(f"{label}_nothing_held", words, None, seeds)
+    yield Case(f"{label}_no_now", words, {name: data for name, data in key.files.items() if name != "k1.now"}, seeds)
+    yield Case(f"{label}_bad_now", words, tied_key(4, 1).now(b"DKNW").files, seeds)
+    yield Case(f"{label}_now_of_another_name", words, tied_key(4, 1).now(now_bytes("k2", 4, 1, 3, 7)).files, seeds)
+    yield Case(f"{label}_two_missing", words, tied_key(4, 1).without(1, 3).files, seeds)
+    yield Case(f"{label}_all_missing", words, tied_key(4, 1).without(1, 2, 3, 4).files)
+    yield Case(f"{label}_missing_and_drilled", words + " d", tied_key(4, 1).without(2).plus(d=b"4 1 silent").files, seeds)
+    yield Case(f"{label}_missing_is_drilled", words + " d", tied_key(4, 1).without(2).plus(d=b"2 1 silent\n2 5 garble").files, seeds)
+    yield Case(f"{label}_full", words, Key(4, 1, period=2**32 - 1).files, seeds)
+    yield Case(f"{label}_full_without_seeds", words, Key(4, 1, period=2**32 - 1).files)
+    yield Case(f"{label}_too_few_before_full", words, Key(4, 1, period=2**32 - 1).without(2, 4).files)
+    yield Case(f"{label}_to_the_last_period", words, Key(4, 1, period=2**32 - 2, next_number=2**32 - 1).files, seeds)
+    yield Case(f"{label}_drill_missing", words + " d", key.files, seeds)
+    yield Case(f"{label}_drill_missing_before_too_few", words + " d", tied_key(4, 1).without(1, 2).files)
+    yield Case(f"{label}_drill_refused_before_too_few", words + " d", tied_key(4, 1).without(1, 2).plus(d=b"x").files)
+    yield Case(f"{label}_too_few_before_seeds", words + " d", tied_key(4, 1).without(1).plus(d=b"2 2 late").files)
+    yield Case(f"{label}_three_seeds", words, key.files, seeds[:3])
+    yield Case(f"{label}_three_seeds_for_three_files", words, tied_key(4, 1).without(1).files, seeds[:3])
+    yield Case(f"{label}_seeds_left", words, key.files, seeds_for(label, 6))
+    yield Case(f"{label}_one_seed_for_all", words, key.files, [seeds[1]] * 4)
+    for number in (0, 3, 4):
+        yield Case(f"{label}_entropy_fails_{number}", words, key.files, seeds, entropy=[number])
+    held = {**stray_files(3), **key.files}
+    yield Case(f"{label}_removes_what_was_left", words, held, seeds)
+    yield Case(f"{label}_sink_fails_0", words, held, seeds, sink=[0])
+    # The calls: the now file, four share files, 30 removals, four puts, the now file, 15 removals.
+    for number in (0, 1, 4, 5, 19, 20, 34, 35, 38, 39, 40, 54, 55):
+        yield Case(f"{label}_shelf_fails_{number}", words, held, seeds, shelf=[number])
+    for number in (12, 37, 39, 40, 47):
+        stopped = Case("", words, held, seeds, shelf=[number]).after()
+        yield Case(f"{label}_recover_after_a_stop_at_{number}", "recover k1", stopped)
+        yield Case(f"{label}_again_after_a_stop_at_{number}", words, stopped, seeds_for("again", 5))
+    yield Case(f"{label}_one_wrong_share", words, tied_key(4, 1).wrong(2).files, seeds)
+    for what, data in {
+        "empty": b"",
+        "version_1": Key(4, 1, period=3).files["k1.3.2.share"],
+        "another_committee": tied_key(4, 1, holders=7).files["k1.3.2.share"],
+        "another_member": key.files["k1.3.3.share"],
+    }.items():
+        yield Case(f"{label}_damaged_{what}", words, tied_key(4, 1).damaged(2, data).files, seeds)
+    for text in ("5 9 silent", f"1 {rounds + 1} silent", "1 1 silent\n2 1 silent", "3 5 accuse 1", "1 4 veto", "2 2 wrong 1"):
+        name = "_".join(text.split())
+        yield Case(f"{label}_drill_{name}", words + " d", tied_key(4, 1).plus(d=text.encode()).files, seeds)
+
+
+def refreshed(label, n, t, *drill, without=()):
+    """A refresh with a drill of these lines."""
+    files = tied_key(n, t).without(*without).plus(d=lines(drill).encode()).files
+    return Case(f"refresh_drill_{label}", "refresh k1 d", files, seeds_for(f"refresh {n} {t}", n))
+
+
+def refresh_cases():
+    """Refreshes of all sizes, with files that are none, and with drills."""
+    for words in ("refresh", "refresh K1", "refresh k1 d d", "refresh k1 -d", "refresh k1 d.now", "refresh k1 4 1 d"):
+        yield Case("refresh_usage_" + "_".join(words.split()), words, Key(4, 1).files)
+    for n, t in ((4, 1), (5, 1), (7, 1), (7, 2), (10, 1), (10, 3), (13, 2), (13, 4)):
+        case = Case(f"refresh_{n}_{t}", "refresh k1", tied_key(n, t).files, seeds_for("refresh", n + 1))
+        yield case
+        yield Case(f"refresh_{n}_{t}_then_recover", "recover k1", case.after())
+    plain = Case("refresh_of_version_1", "refresh k1", Key(4, 1).files, seeds_for("refresh", 4))
+    yield plain
+    yield Case("refresh_of_version_1_then_recover", "recover k1", plain.after())
+    yield Case("refresh_again", "refresh k1", plain.after(), seeds_for("again", 4))
+    files = Case("", "create k1 4 1", None, seeds_for("create", 4)).after()
+    yield Case("refresh_created", "refresh k1", files, seeds_for("refresh", 4))
+    files = Case("", "create k1 4 1 d", {"d": b"2 1 skew 5\n"}, seeds_for("create", 4)).after()
+    yield Case("refresh_created_with_a_drill", "refresh k1", files, seeds_for("refresh", 4))
+    yield Case("refresh_created_with_a_drill_and_another", "refresh k1 e", {**files, "e": b"4 1 silent\n"}, seeds_for("refresh", 4))
+    yield Case("refresh_zero_key", "refresh k1", Key(4, 1).put(1, [0] * 5).put(2, [0] * 5).put(3, [0] * 5).put(4, [0] * 5).files, seeds_for("refresh", 4))
+    yield from step_cases("refresh k1", "refresh", 5)
+    held = {**tied_key(4, 1).files, "k1.2.3.share": b"left", "k1.4.2.share": b"left"}
+    for number in range(57):
+        yield Case(f"refresh_drilled_shelf_fails_{number}", "refresh k1 d", {**held, "d": b"2 1 skew 5"}, seeds_for("refresh", 4), shelf=[number])
+    yield Case("refresh_7_two_missing", "refresh k1", tied_key(7, 2).without(1, 6).files, seeds_for("refresh", 5))
+    yield Case("refresh_7_three_missing", "refresh k1", tied_key(7, 2).without(1, 2, 6).files, seeds_for("refresh", 7))
+    yield Case("refresh_13_four_missing", "refresh k1", tied_key(13, 4).without(1, 5, 9, 13).files, seeds_for("refresh", 9))
+    yield refreshed("empty", 4, 1)
+    for verb in ("silent", "late", "garble"):
+        for round_number in (1, 2, 3, 4, 5):
+            yield refreshed(f"{verb}_{round_number}", 4, 1, f"3 {round_number} {verb}")
+    for round_number in (1, 2, 4):
+        yield refreshed(f"skew_{round_number}", 4, 1, f"1 {round_number} skew 5")
+    yield refreshed("accuse", 4, 1, "3 3 accuse 1")
+    yield refreshed("veto", 4, 1, "1 5 veto")
+    yield refreshed("skew_then_silent", 4, 1, "2 1 skew 5", "2 4 silent")
+    yield refreshed("skew_then_skewed_reveal", 4, 1, "2 1 skew 5", "2 4 skew 9")
+    yield refreshed("7_one_away_and_one_skewed", 7, 2, "3 1 skew 2", "3 4 garble", without=(5,))
+    yield refreshed("7_one_away_and_one_accuses_it", 7, 2, "2 3 accuse 5", without=(5,))
+    yield refreshed("13_two_away_and_two_drilled", 13, 4, "1 1 skew 3", "12 2 garble", without=(4, 13))
+    numbers = numbers_of("refresh drills")
+    for count in range(12):
+        n, t = ((4, 1), (7, 2), (10, 3))[count % 3]
+        away = (1 + next(numbers) % n,) if t > 1 else ()
+        drill = random_drill(numbers, n, t - len(away))
+        yield refreshed(f"random_{count}", n, t, *drill, without=away)
+
+
+def moved(label, n, t, m, u, *drill, without=(), wrong=()):
+    """A move with a drill of these lines."""
+    files = tied_key(n, t).wrong(*wrong, lane=2).without(*without).plus(d=lines(drill).encode()).files
+    return Case(f"move_drill_{label}", f"move k1 {m} {u} d", files, seeds_for(f"move {n} {t}", n))
+
+
+def random_move_line(numbers, n, m, seat, round_number):
+    if next(numbers) % 8 == 0:
+        return f"{seat} {round_number} " + ("silent", "late", "garble")[next(numbers) % 3]
+    k, other = next(numbers) % 3, 1 + next(numbers) % m
+    verb = {1: "wrong", 4: "skew"} if seat <= n else {2: "skew", 3: "accuse", 5: "veto", 6: "skew"}
+    if round_number not in verb:
+        return f"{seat} {round_number} garble"
+    if verb[round_number] == "accuse":
+        return f"{seat} 3 accuse {other if n + other != seat else 1 + other % m}"
+    return f"{seat} {round_number} " + (f"{verb[round_number]} {k}" if round_number != 5 else "veto")
+
+
+def random_move_drill(numbers, n, t, m, u):
+    """Some lines for at most t old and u new members."""
+    drill = []
+    for first, size, bound in ((1, n, t), (n + 1, m, u)):
+        seats = sorted(range(first, first + size), key=lambda _: next(numbers))[: next(numbers) % (bound + 1)]
+        for seat in seats:
+            for round_number in range(1, 7):
+                if next(numbers) % 5 < 2:
+                    drill.append(random_move_line(numbers, n, m, seat, round_number))
+    return drill
+
+
+def move_drill_cases():
+    """Moves with a drill: seats 1 to 4 are the old members, 5 to 8 the new ones."""
+    yield moved("empty", 4, 1, 4, 1)
+    for verb in ("silent", "late", "garble"):
+        for seat, round_number in ((2, 1), (2, 2), (2, 4), (2, 6), (6, 1), (6, 2), (6, 3), (6, 4), (6, 5), (6, 6)):
+            yield moved(f"{verb}_{round_number}_by_{seat}", 4, 1, 4, 1, f"{seat} {round_number} {verb}")
+    for line in ("1 1 skew 5", "5 2 skew 5", "8 2 skew 5", "3 4 skew 5", "5 6 skew 5", "8 6 skew 0", "3 1 wrong 7", "3 1 wrong 0", "6 3 accuse 1", "6 3 accuse 4", "7 5 veto"):
+        yield moved("_".join(line.split()), 4, 1, 4, 1, line)
+    yield moved("wrong_and_skewed_values", 4, 1, 4, 1, "2 1 wrong 3", "8 6 skew 1")
+    yield moved("wrong_and_skewed_reveal", 4, 1, 4, 1, "2 1 wrong 3", "2 4 skew 1", "7 3 accuse 1")
+    yield moved("skew_then_silent", 4, 1, 7, 2, "2 1 skew 5", "2 4 silent", "9 5 veto", "11 6 silent")
+    yield moved("two_skewed_values", 4, 1, 7, 2, "5 6 skew 1", "11 6 skew 1")
+    yield moved("skewed_values_and_none", 4, 1, 7, 2, "5 6 skew 7", "9 6 garble")
+    yield moved("wrong_by_both_of_7", 7, 2, 7, 2, "1 1 wrong 1", "2 1 wrong 2305843009213693950", "8 6 skew 3", "14 6 skew 3")
+    yield moved("wrong_and_late", 4, 1, 5, 1, "3 1 wrong 2", "3 5 late", "9 6 late")
+    yield moved("silent_where_another_share_is_wrong", 4, 1, 4, 1, "4 1 late", wrong=(1,))
+    yield moved("silent_later_where_another_share_is_wrong", 4, 1, 4, 1, "4 5 silent", wrong=(1,))
+    yield moved("7_wrong_and_away", 7, 2, 5, 1, "3 1 wrong 9", "10 6 skew 4", without=(6,))
+    yield moved("7_one_share_wrong_and_one_away", 7, 2, 4, 1, without=(6,), wrong=(1,))
+    yield moved("7_wrong_and_away_and_a_wrong_share", 7, 2, 4, 1, "3 1 wrong 9", without=(6,), wrong=(1,))
+    yield moved("13_to_13_eight", 13, 4, 13, 4, "1 1 wrong 1", "5 1 silent", "13 4 skew 2", "14 2 garble", "20 3 accuse 13", "26 6 skew 1", without=(9,))
+    for text in ("3 6 skew 1", "7 1 skew 1", "7 4 skew 1", "7 1 wrong 1", "2 2 skew 1", "2 3 accuse 1", "2 5 veto", "6 3 accuse 2", "6 3 accuse 5", "9 1 silent"):
+        yield moved("refused_" + "_".join(text.split()), 4, 1, 4, 1, text)
+    yield moved("two_old", 4, 1, 4, 1, "1 1 silent", "4 1 silent")
+    yield moved("two_new", 4, 1, 4, 1, "5 1 silent", "8 1 silent")
+    yield moved("two_of_each", 4, 1, 7, 2, "1 1 silent", "2 1 silent", "5 1 silent", "6 1 silent", "7 1 silent")
+    yield moved("three_new_of_bound_2", 4, 1, 7, 2, "5 1 silent", "6 1 silent", "7 1 silent", "1 1 silent")
+    numbers = numbers_of("move drills")
+    for count in range(16):
+        n, t, m, u = ((4, 1, 4, 1), (7, 2, 4, 1), (4, 1, 7, 2), (7, 2, 5, 1))[count % 4]
+        away = (1 + next(numbers) % n,) if t > 1 else ()
+        yield moved(f"random_{count}", n, t, m, u, *random_move_drill(numbers, n, t - len(away), m, u), without=away)
+
+
+def move_cases():
+    """Moves between all sizes, with shares that are wrong or missing, and with drills."""
+    for words in ("move", "move k1", "move k1 4", "move k1 6 1", "move k1 4 2", "move k1 7 3", "move K1 4 1", "move k1 4 1 d d", "move k1 4 1 -d", "move k1 05 1", "move k1 15 4"):
+        yield Case("move_usage_" + "_".join(words.split()), words, Key(4, 1).files)
+    largest = ((4, 1), (5, 1), (7, 2), (10, 3), (13, 4))
+    for (n, t), (m, u) in [*itertools.product(largest, largest), ((7, 1), (10, 2)), ((13, 2), (7, 1)), ((10, 1), (13, 3))]:
+        case = Case(f"move_{n}_{t}_to_{m}_{u}", f"move k1 {m} {u}", tied_key(n, t).files, seeds_for("move", n + 1))
+        yield case
+        yield Case(f"move_{n}_{t}_to_{m}_{u}_then_recover", "recover k1", case.after())
+    plain = Case("move_of_version_1", "move k1 5 1", Key(4, 1).files, seeds_for("move", 4))
+    yield plain
+    yield Case("move_of_version_1_then_recover", "recover k1", plain.after())
+    yield Case("move_again", "move k1 4 1", plain.after(), seeds_for("again", 5))
+    yield Case("move_then_refresh", "refresh k1", plain.after(), seeds_for("again", 5))
+    files = Case("", "create k1 4 1 d", {"d": b"2 1 skew 5\n"}, seeds_for("create", 4)).after()
+    yield Case("move_created_with_a_drill", "move k1 4 1", files, seeds_for("move", 4))
+    yield from step_cases("move k1 4 1", "move", 6)
+    yield Case("move_wrong_in_two_lanes", "move k1 5 1", Key(4, 1).wrong(2, lane=0).wrong(2, lane=3, by=P - 1).files, seeds_for("move", 4))
+    yield Case("move_wrong_in_different_lanes", "move k1 5 1", Key(4, 1).wrong(1, lane=0).wrong(4, lane=2).files, seeds_for("move", 4))
+    yield Case("move_two_wrong", "move k1 5 1", Key(4, 1).wrong(1, 2).files, seeds_for("move", 4))
+    yield Case("move_two_wrong_in_the_last_lane", "move k1 7 2", Key(4, 1).wrong(1, 2, lane=4).files, seeds_for("move", 4))
+    yield Case("move_one_missing_one_wrong", "move k1 4 1", Key(4, 1).wrong(1, lane=1).without(2).files, seeds_for("move", 4))
+    yield Case("move_7_two_wrong", "move k1 5 1", Key(7, 2).wrong(1, 7).files, seeds_for("move", 7))
+    yield Case("move_7_three_wrong", "move k1 5 1", Key(7, 2).wrong(1, 3, 7).files, seeds_for("move", 7))
+    yield Case("move_7_two_wrong_at_bound_1", "move k1 5 1", Key(7, 1).wrong(1, 7).files, seeds_for("move", 7))
+    yield Case("move_7_two_missing", "move k1 13 4", Key(7, 2).without(1, 2).files, seeds_for("move", 7))
+    yield Case("move_three_agree_on_another_key", "move k1 4 1", Key(4, 1).agreeing(1, 3, 4).files, seeds_for("move", 4))
+    yield Case("move_10_three_wrong", "move k1 4 1", Key(10, 3).wrong(2, 5, 9, lane=2).files, seeds_for("move", 10))
+    yield Case("move_13_four_wrong", "move k1 4 1", Key(13, 4).wrong(1, 2, 12, 13).files, seeds_for("move", 13))
+    yield Case("move_13_five_wrong", "move k1 4 1", Key(13, 4).wrong(1, 2, 3, 12, 13, lane=1).files, seeds_for("move", 13))
+    yield Case("move_two_wrong_before_the_shelf", "move k1 5 1", Key(4, 1).wrong(1, 2).files, seeds_for("move", 4), shelf=[5], sink=[0])
+    yield Case("move_zero_key", "move k1 5 1", Key(4, 1).put(1, [0] * 5).put(2, [0] * 5).put(3, [0] * 5).put(4, [0] * 5).files, seeds_for("move", 4))
+    yield from worked_moves()
+    yield from move_fault_cases()
+    yield from move_life_cases()
+    yield from move_drill_cases()
+
+
+def worked_moves():
+    """The moves of 7 + 3x whose every number was worked out by hand: a dealer of another share, and two wrong shares."""
+    held = {**sample_key(10, 13, 16, 19).files, "d": b"1 1 wrong 1\n"}
+    wrong = Case("move_worked_one_wrong", "move k1 7 2 d", held, seeds_for("worked", 4))
+    yield wrong
+    yield Case("move_worked_one_wrong_then_recover", "recover k1", wrong.after())
+    yield Case("move_worked_two_wrong", "move k1 7 2", sample_key(11, 14, 16, 19).files, seeds_for("worked", 4))
+    late = {**sample_key(11, 13, 16, 19).files, "d": b"4 1 late\n"}
+    yield Case("move_worked_one_wrong_and_one_late", "move k1 4 1 d", late, seeds_for("worked", 4))
+
+
+def move_fault_cases():
+    """A move of 4 members to 5 with a drill, whose every call of the shelf fails once: the now file, four share files, the
+    drill, 30 removals, four puts, the now file, 15 removals. And an entropy and a sink that fail."""
+    held = {**tied_key(4, 1).files, "k1.2.3.share": b"left", "k1.4.5.share": b"left", "d": b"2 1 wrong 5\n9 6 skew 1\n"}
+    words, seeds = "move k1 5 1 d", seeds_for("move", 4)
+    for number in range(57):
+        yield Case(f"move_drilled_shelf_fails_{number}", words, held, seeds, shelf=[number])
+    for number in range(5):
+        yield Case(f"move_drilled_entropy_fails_{number}", words, held, seeds, entropy=[number])
+    for number in range(2):
+        yield Case(f"move_drilled_sink_fails_{number}", words, held, seeds, sink=[number])
+    yield Case("move_no_seeds", "move k1 5 1", tied_key(4, 1).files)
+
+
+def move_life_cases():
+    """Moves behind a refresh and before one, and a document that goes along."""
+    doc = b"Meet at noon.\n"
+    sealed = Case("", "seal k1 doc box", tied_key(4, 1).plus(doc=doc).files).after()
+    first = Case("move_sealed", "move k1 7 2", sealed, seeds_for("life", 4))
+    yield first
+    yield Case("move_then_open", "open k1 box out", first.after())
+    yield Case("move_then_seal", "seal k1 doc box2", first.after())
+    refreshed_files = Case("", "refresh k1", first.after(), seeds_for("life", 7)).after()
+    lost = {name: data for name, data in refreshed_files.items() if name not in ("k1.5.2.share", "k1.5.7.share")}
+    second = Case("move_after_refresh", "move k1 4 1", lost, seeds_for("life", 5))
+    yield second
+    yield Case("move_after_refresh_then_recover", "recover k1", second.after())
+    third = Case("move_then_refresh_again", "refresh k1", second.after(), seeds_for("life", 4))
+    yield third
+    yield Case("move_life_then_open", "open k1 box out", third.after())
+    yield Case("move_life_then_check", "check k1", third.after())
+
+
 def all_cases():
     for cases in (
         recover_cases,
@@ -1494,6 +2013,8 @@ def all_cases():
         refused_drill_cases,
         seal_cases,
         open_cases,
+        refresh_cases,
+        move_cases,
     ):
         yield from cases()
 
@@ -1590,6 +2111,8 @@ def checks():
     found = "text key e39a69c229a5f7107d42fc6b86e467b611279a1c57d1dfa4befdb8b2ee23bd95" in made
     yield "the key of seeds of repeated bytes", found
     yield from drill_checks()
+    yield from refresh_checks()
+    yield from move_checks()
 
 
 def tied_checks():
@@ -1632,6 +2155,138 @@ def drill_checks():
         yield f"usage: {words}", endings(Case("", words))[:2] == ["code 2", "line refused 2 usage"]
 
 
+def key_line(files):
+    """The line that recover prints of the key."""
+    return [text for text in Case("", "recover k1", files).ending() if text.startswith("text key ")]
+
+
+def dealt_refresh(*numbers):
+    """The shares of 4 members after a refresh, in the first lane: their grids are these numbers, their shares 7 + 3j."""
+    setting = refresh_setting(4, 1)
+    seats = {me: Seat(setting, me, [[[number]]] * 5) for me, number in enumerate(numbers, 1)}
+    play(setting, seats, {})
+    return [7 + 3 * me + me * seat.shares()[0] for me, seat in seats.items()]
+
+
+def refresh_checks():
+    """Refreshes worked out by hand."""
+    yield "grids that add up to 4", dealt_refresh(1, 1, 1, 1) == [14, 21, 28, 35] == dealt_refresh(0, 4, 0, 0)
+    made = Case("", "create k1 4 1", None, seeds_for("any", 4)).after()
+    step = Case("", "refresh k1", made, seeds_for("other", 4))
+    texts = ["text refresh k1 4 1 period 2", *round_lines(15, 15, 15, 15, 15), "text accepted 20 of 20", "text shares 1 2 3 4"]
+    yield "a refresh after a create", step.ending()[3:11] == texts
+    names = ["k1.2.1.share", "k1.2.2.share", "k1.2.3.share", "k1.2.4.share", "k1.now"]
+    yield "the files of the new period alone", sorted(step.after()) == names
+    yield "the same key", len(key_line(made)) == 1 and key_line(made) == key_line(step.after())
+    yield "other shares", made["k1.1.2.share"][44:84] != step.after()["k1.2.2.share"][44:84]
+    yield "55 calls of the shelf", endings(Case("", "refresh k1", made, seeds_for("other", 4), shelf=[54]))[1] == "line refused 10 shelf" and endings(Case("", "refresh k1", made, seeds_for("other", 4), shelf=[55]))[0] == "code 0"
+    now, before = step.after()["k1.now"], made["k1.now"]
+    yield "the committee before", now[84:116] == before[52:84] and now[48:52] == bytes([0, 0, 0, 15])
+    first = Case("", "refresh k1", sample_key(10, 13, 16, 19).files, seeds_for("other", 4)).after()
+    yield "of version 1 to version 2", all(len(data) == 148 for data in first.values()) and first["k1.now"][84:116] == bytes(32)
+    known = ["text key 133e7f97ad4b6a1fc1bebc9e6a35d495f3de8d4df7615d75d074b69f4d1ec0c3"]
+    yield "the key 7, 0, 0, 0, 0 after it", key_line(first) == known
+    skewed_create = Case("", "create k1 4 1 d", {"d": b"2 1 skew 5\n"}, seeds_for("any", 4)).after()
+    held = {**skewed_create, "d": b"4 1 silent\n"}
+    yield "two sound members", endings(Case("", "refresh k1 d", held, seeds_for("other", 3)))[1] == "line refused 5 sound 2 needed 3"
+    last = Key(4, 1, period=2**32 - 1)
+    yield "the last period", endings(Case("", "refresh k1", last.files, seeds_for("other", 4)))[1] == "line refused 8 full 4294967295"
+    stopped = Case("", "refresh k1", made, seeds_for("other", 4), shelf=[39])
+    yield "a stop at the now file", endings(stopped)[1] == "line refused 10 shelf" and stopped.after()["k1.now"] == before and key_line(stopped.after()) == key_line(made)
+    again = Case("", "refresh k1", stopped.after(), seeds_for("third", 4))
+    yield "again after it", sorted(again.after()) == names and key_line(again.after()) == key_line(made)
+    late = Case("", "refresh k1", made, seeds_for("other", 4), sink=[0])
+    yield "a sink that fails", endings(late)[:2] == ["code 13", "line refused 13 sink"] and sorted(late.after()) == names
+
+
+def move_checks():
+    """Moves worked out by hand."""
+    sixth, third = pow(6, P - 2, P), pow(3, P - 2, P)
+    yield "syndrome of 11, 13, 16, 19", syndrome_of([11, 13, 16, 19], 1) == [384307168202282325] * 2 == [P - sixth] * 2
+    yield "its error", error_of([384307168202282325] * 2, 4, 1) == [1, 0, 0, 0]
+    far = syndrome_of([11, 14, 16, 19], 1)
+    yield "syndrome of 11, 14, 16, 19", far == [1537228672809129301, 384307168202282326] == [third, 5 * sixth % P]
+    yield "it has no error", error_of(far, 4, 1) is None
+    held = {**sample_key(10, 13, 16, 19).files, "d": b"1 1 wrong 1\n"}
+    step = Case("", "move k1 7 2 d", held, seeds_for("any", 4))
+    texts = ["text move k1 4 1 to 7 2 period 2", *round_lines(*[2047] * 6), "text accepted 20 of 20", "text corrected 1"]
+    yield "a dealer of another share", step.ending()[3:13] == texts + ["text shares 1 2 3 4 5 6 7"]
+    known = ["text key 133e7f97ad4b6a1fc1bebc9e6a35d495f3de8d4df7615d75d074b69f4d1ec0c3"]
+    yield "the same key", key_line(step.after()) == known
+    two = Case("", "move k1 7 2", sample_key(11, 14, 16, 19).files, seeds_for("any", 4))
+    yield "two wrong shares", two.ending()[1:4] == [
+        "code 6",
+        "line refused 6 lane 0 syndrome 1537228672809129301 384307168202282326",
+        "held k1.1.1.share " + two.held["k1.1.1.share"].hex(),
+    ]
+    yield "nothing has changed, and the seeds are taken", two.after() == two.held and two.ending()[-2] == "left 0"
+    late = Case("", "move k1 4 1 d", {**sample_key(11, 13, 16, 19).files, "d": b"4 1 late"}, seeds_for("any", 4))
+    yield "one wrong and one that is out", endings(late)[0] == "code 6"
+    in_time = Case("", "move k1 4 1", sample_key(11, 13, 16, 19).files, seeds_for("any", 4))
+    yield "and without the drill", endings(in_time)[0] == "code 0" and "text corrected 1" in in_time.ending()
+    yield "the weights 2 and -1", through([(1, 11 - 1), (2, 13)])[0] == 2 * (11 - 1) - 13 == 7
+    yield from stopped_move_checks()
+    yield from pair_checks()
+    yield from session_checks()
+
+
+def stopped_move_checks():
+    """A move of 4 members to 5 that is stopped: its calls are those of a refresh, with a put for each new member."""
+    held, seeds = sample_key(10, 13, 16, 19).files, seeds_for("any", 4)
+    known = ["text key 133e7f97ad4b6a1fc1bebc9e6a35d495f3de8d4df7615d75d074b69f4d1ec0c3"]
+    names = [f"k1.2.{index}.share" for index in range(1, 6)] + ["k1.now"]
+
+    def stop(number):
+        return Case("", "move k1 5 1", held, seeds, shelf=[number])
+
+    yield "56 calls of the shelf", endings(stop(55))[0] == "code 10" and endings(stop(56))[0] == "code 0"
+    before, after = stop(40), stop(41)
+    yield "a move stopped at the now file", before.after()["k1.now"] == held["k1.now"] and key_line(before.after()) == known
+    yield "and behind it", after.after()["k1.now"][5:12] == bytes([5, 1, 0, 0, 0, 0, 2]) and key_line(after.after()) == known
+    again = Case("", "move k1 5 1", before.after(), seeds_for("third", 4)).after()
+    yield "again after the first", sorted(again) == names and key_line(again) == known
+    healed = Case("", "refresh k1", after.after(), seeds_for("third", 5)).after()
+    yield "a refresh after the second", sorted(healed) == [name.replace(".2.", ".3.") for name in names] and key_line(healed) == known
+
+
+def pair_checks():
+    """Moves between all pairs of sizes: the key is the one that was dealt from the start."""
+    largest = [(n, (n - 1) // 3) for n in SIZES]
+    for (n, t), (m, u) in itertools.product(largest, largest):
+        key = tied_key(n, t)
+        known = ["text key " + fingerprint([poly[0] for poly in key.polys])]
+        after = Case("", f"move k1 {m} {u}", key.files, seeds_for("pair", n)).after()
+        yield f"the key from {n} to {m}", key_line(after) == known and len(after) == m + 1
+
+
+def session_checks():
+    """A session: create, seal, refresh, move, refresh, open, check."""
+    letter, held, told = b"Meet at noon.\n", {"letter.txt": b"Meet at noon.\n"}, []
+    for words, count in (
+        ("create k1 4 1", 4),
+        ("seal k1 letter.txt letter.box", 0),
+        ("refresh k1", 4),
+        ("move k1 5 1", 4),
+        ("refresh k1", 5),
+        ("open k1 letter.box out.txt", 0),
+        ("check k1", 0),
+    ):
+        case = Case("", words, held, seeds_for(f"{words} {len(told)}", count))
+        held = case.after()
+        told.append([text for text in case.ending() if text.startswith("text ")])
+    yield "sealed", told[1] == ["text seal k1 number 0 bytes 14"] and len(held["letter.box"]) == 94
+    yield "moved", told[3][1:7] == round_lines(*[511] * 6) and told[3][8] == "text corrected none"
+    yield "refreshed by five", told[4][1:6] == round_lines(*[31] * 5)
+    yield "opened", told[5] == ["text open k1 number 0 bytes 14"] and held["out.txt"] == letter
+    yield "five members", told[6] == ["text check k1 5 1 period 4"] + [f"text member {index} ok" for index in range(1, 6)]
+    shares = [f"k1.4.{index}.share" for index in range(1, 6)]
+    yield "the files of the last period", sorted(name for name in held if name.startswith("k1.")) == [*shares, "k1.now"]
+
+
+# What may be left out.
+FEATURES = {"sizes", "drills", "seal", "refresh", "move"}
+
+
 def check_all():
     failed = 0
     for what, holds in checks():
@@ -1647,12 +2302,12 @@ def main(arguments):
         return write_shelves(arguments[1])
     without, only = set(), ""
     while len(arguments) > 2 and arguments[0] in ("--without", "--only"):
-        if arguments[0] == "--without":
-            without = set(arguments[1].split(","))
-        else:
+        if arguments[0] == "--only":
             only = arguments[1]
+        else:
+            without |= set(arguments[1].split(","))
         arguments = arguments[2:]
-    if len(arguments) != 2 or not without <= {"sizes", "drills", "seal"}:
+    if len(arguments) != 2 or not without <= FEATURES:
         print(__doc__, file=sys.stderr)
         return 2
     cases = [case for case in all_cases() if not case.features() & without and only in case.label]
