@@ -1,7 +1,7 @@
 #!/bin/sh
 # Measures what the gate pays for each crate, in processor seconds, in the order of crates.txt: `rt verdict` (the crate and
-# its tests, from nothing, over the libraries that stand) and `rt must-fail` (its edits). Prints the rows of
-# docs/COST.md's table. It works in a copy of the repository, so nothing is left behind. Only figures from a quiet machine
+# its tests, from nothing, over the libraries that stand) and `rt must-fail` (its edits). Prints a table, which
+# docs/COST.md reads. It works in a copy of the repository, so nothing is left behind. Only figures from a quiet machine
 # say much: the load is printed first and last. A whole run takes hours of processor time.
 #
 # usage: bench/proofs.sh [CRATE..]
