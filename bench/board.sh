@@ -9,14 +9,15 @@ work=$(mktemp -d)
 trap 'rm -rf "$work"' EXIT
 mkdir -p "$work/crates/board_hammer/src"
 cp "$here/HANDLES" "$work/"
-for crate in lists roundboard; do
+for crate in lists counters roundboard; do
     for part in src specs proofs; do
+        [ -d "$here/crates/$crate/$part" ] || continue
         mkdir -p "$work/crates/$crate/$part"
         cp -r "$here/crates/$crate/$part/." "$work/crates/$crate/$part/"
     done
 done
 sed "s/^const BOARDS: u32 = 40;/const BOARDS: u32 = $boards;/" "$here/bench/board_hammer.txt" > "$work/crates/board_hammer/src/main.rt"
-printf 'lists:\nroundboard: lists atomic_table once_cell\nboard_hammer: roundboard lists\n' > "$work/crates.txt"
+printf 'lists:\ncounters:\nroundboard: lists atomic_table once_cell counters\nboard_hammer: roundboard lists\n' > "$work/crates.txt"
 cd "$work/crates/board_hammer"
 rt try > "$work/shown" 2> "$work/log" || true
 bad=0

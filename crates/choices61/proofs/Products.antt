@@ -4,7 +4,7 @@ use Rattle.std.proofs.lemmas.Bool.{cond-true, cond-false, and_parts, leb-true}
 use Rattle.algebra61.specs.Field.{Fp, zeroₚ, ◌+ₚ◌}
 use Rattle.algebra61.specs.Grid.{Degree, add_product}
 use Rattle.algebra61.proofs.Ring.{add_zero}
-use Rattle.sizes.specs.Instances.{dealer_of}
+use Rattle.sizes.specs.Instances.{dealer_of, instance_at}
 use Rattle.sharing61.specs.Instance.{Dealer, Honest, Instance, complaint, vote, share}
 use Rattle.sharing61.specs.Agreement.{Proper, HonestReceiver, Deals}
 use Rattle.sharing61.specs.Translation.{translated, Hides, SameViews}
@@ -13,7 +13,7 @@ use Rattle.talk.specs.declared.messages.Post.TheVariants.{Complaints, Reveals, V
 use Rattle.talk.specs.declared.messages.Ring.TheVariants.{Dealt, Cross}
 use Rattle.talk.specs.Shape.{Shape, instances, seats, deals, receives}
 use Rattle.plays.specs.Play.{Play, instance_of, dealer_if, seat_of}
-use Rattle.plays.specs.Said.{pair_list, two_list, reveal_item, dealt_by, crossed_by, complaints_by, reveals_by, votes_by}
+use Rattle.plays.specs.Said.{pair_list, crossing_values, reveal_item, dealt_by, crossed_by, complaints_by, reveals_by, votes_by}
 use Rattle.plays.specs.Law.{HonestIn}
 use Rattle.plays.specs.Stage.{receiver_at}
 use Rattle.plays.specs.Heard.{post_by, ring_by}
@@ -107,7 +107,7 @@ reveals_stay p g all dealer a b =
     ap Reveals
     (flat_same _ _ 5 0
     (λ l l0 l5. flat_same _ _ p.shape.receivers 1
-    (λ j j1 jn. ap (reveal_item p.shape.degree l j) ((all ((dealer - 1) * 5 + l) (omega (arith, a, b, l5))).reveals j (j1, omega (arith, jn))))))
+    (λ j j1 jn. ap (reveal_item p.shape.degree l j) ((all (instance_at dealer l) (omega (arith, a, b, l5))).reveals j (j1, omega (arith, jn))))))
 
 votes_stay : (p : Play) (g : ℕ → List (List Fp)) → AllSee p g → (j : ℕ) → 1 ≤ j → j ≤ p.shape.receivers → votes_by (with_grid p g) j ≡ votes_by p j
 unfolding votes_by instance_of
@@ -118,13 +118,13 @@ dealt_stay : (p : Play) (g : ℕ → List (List Fp)) → AllSee p g → (dealer 
     dealt_by (with_grid p g) dealer j ≡ dealt_by p dealer j
 unfolding dealt_by instance_of
 dealt_stay p g all dealer j a b j1 jn dj =
-    ap Dealt (flat_same _ _ 5 0 (λ l l0 l5. ap (pair_list p.shape.degree) ((all ((dealer - 1) * 5 + l) (omega (arith, a, b, l5))).dealt j (j1, jn) dj)))
+    ap Dealt (flat_same _ _ 5 0 (λ l l0 l5. ap (pair_list p.shape.degree) ((all (instance_at dealer l) (omega (arith, a, b, l5))).dealt j (j1, jn) dj)))
 
 crossed_stay : (p : Play) (g : ℕ → List (List Fp)) → AllSee p g → (k j : ℕ) → 1 ≤ k → k ≤ p.shape.receivers → 1 ≤ j → j ≤ p.shape.receivers → p.down (seat_of p.shape j) ≡ true →
     crossed_by (with_grid p g) k j ≡ crossed_by p k j
 unfolding crossed_by instance_of
 crossed_stay p g all k j k1 kn j1 jn dj =
-    ap Cross (flat_same _ _ (instances p.shape) 0 (λ i i0 im. ap two_list ((all i (omega (arith, im))).crossed j k (j1, jn) (k1, kn) dj)))
+    ap Cross (flat_same _ _ (instances p.shape) 0 (λ i i0 im. ap crossing_values ((all i (omega (arith, im))).crossed j k (j1, jn) (k1, kn) dj)))
 
 -- ---- by seats
 pub record ReceiverOn (s : Shape) (seat : ℕ) : Type 0 where

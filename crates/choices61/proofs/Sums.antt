@@ -49,12 +49,11 @@ lane_more : (p q : Play) (rise : ℕ → ℕ → Fp) (l j : ℕ) → l < 5 →
     (n : ℕ) → n ≤ p.shape.dealers → lane_sum n q l j ≡ lane_sum n p l j +ₚ sum_to n (λ i. rise i l)
 lane_more p q rise l j l5 h zero le = sym (add_zero zeroₚ)
 lane_more p q rise l j l5 h (suc n) le =
-    let e : (suc n - 1) * 5 + l ≡ n * 5 + l = omega arith in
-    let at : rise (dealer_of (n * 5 + l)) (lane_of (n * 5 + l)) ≡ rise (suc n) l =
-    ap (λ k. rise (dealer_of k) (lane_of k)) (sym e) ∙ at_dealer rise (suc n) l (omega arith) l5 in
+    let at : rise (dealer_of (instance_at (suc n) l)) (lane_of (instance_at (suc n) l)) ≡ rise (suc n) l =
+    at_dealer rise (suc n) l (omega arith) l5 in
     ap₂ (λ a b. a +ₚ b) (lane_more p q rise l j l5 h n (omega (arith, le)))
-    (h (n * 5 + l) (omega (arith, le, l5)) ∙ ap (λ v. share (instance_of p (n * 5 + l)) j +ₚ v) at)
-    ∙ four_ring (lane_sum n p l j) (sum_to n (λ i. rise i l)) (share (instance_of p (n * 5 + l)) j) (rise (suc n) l)
+    (h (instance_at (suc n) l) (omega (arith, le, l5)) ∙ ap (λ v. share (instance_of p (instance_at (suc n) l)) j +ₚ v) at)
+    ∙ four_ring (lane_sum n p l j) (sum_to n (λ i. rise i l)) (share (instance_of p (instance_at (suc n) l)) j) (rise (suc n) l)
 
 pub created_more : (p q : Play) (rise : ℕ → ℕ → Fp) (l j : ℕ) → l < 5 → q.shape.dealers ≡ p.shape.dealers →
     ((i : ℕ) → i < instances p.shape → share (instance_of q i) j ≡ share (instance_of p i) j +ₚ rise (dealer_of i) (lane_of i)) →

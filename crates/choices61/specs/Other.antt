@@ -7,7 +7,7 @@ use Rattle.choices61.specs.Translation.{translated_phase}
 -- who is exposed in the period that a phase ends. The first phase ends none, and what stands for it is never read
 abbrev pub exposed_before : Course → ℕ → ℕ → Bool
 exposed_before course zero = course.exposed 0
-exposed_before course (suc k) = course.exposed k
+exposed_before course (suc phase) = course.exposed phase
 
 abbrev pub other_course : Course → (ℕ → Fp) → Course
 other_course course difference =

@@ -28,7 +28,7 @@ pub record AllHide (play : Play) (named : ℕ → Bool) (in_x : List Fp) (in_y :
 
 -- by how much a receiver's share of an instance rises
 abbrev pub rise_of : (ℕ → Bool) → (ℕ → List Fp) → ℕ → ℕ → Fp
-rise_of named in_y i receiver = cond (named i) (eval (in_y i) (fe receiver)) zeroₚ
+rise_of named in_y instance receiver = cond (named instance) (eval (in_y instance) (fe receiver)) zeroₚ
 
 -- in the rounds of the sharing all posts stay, and so do all ring messages to those who are down; the shares rise
 pub record SameInSharing (play other : Play) (rise : ℕ → ℕ → Fp) : Type 0 where

@@ -6,12 +6,12 @@ use Rattle.algebra61.specs.Poly.{mul_list}
 
 -- 1 - x / k: the polynomial of degree 1 that is 1 at 0 and 0 at k
 abbrev pub vanishing_at : ℕ → List Fp
-vanishing_at k = oneₚ ∷ negₚ (invₚ (fe k)) ∷ []
+vanishing_at point = oneₚ ∷ negₚ (invₚ (fe point)) ∷ []
 
 -- the polynomial that is 1 at 0 and 0 at each member of the set; its degree is the size of the set
 unfoldable pub vanisher_of : ℕ → (ℕ → Bool) → List Fp
 vanisher_of zero set = oneₚ ∷ []
-vanisher_of (suc n) set = cond (set (suc n)) (mul_list (vanishing_at (suc n)) (vanisher_of n set)) (vanisher_of n set)
+vanisher_of (suc count) set = cond (set (suc count)) (mul_list (vanishing_at (suc count)) (vanisher_of count set)) (vanisher_of count set)
 
 -- a polynomial that is 0 at 0, divided by y
 abbrev pub over_y : List Fp → List Fp
@@ -20,10 +20,10 @@ over_y (constant ∷ higher) = higher
 
 -- the lowest of 1 to n that the test leaves out, 0 where it leaves out none
 abbrev pub first_or : ℕ → Bool → ℕ → ℕ
-first_or zero true k = 0
-first_or zero false k = k
-first_or (suc found) named k = suc found
+first_or zero true number = 0
+first_or zero false number = number
+first_or (suc found) named number = suc found
 
 abbrev pub lowest_out : ℕ → (ℕ → Bool) → ℕ
 lowest_out zero set = 0
-lowest_out (suc n) set = first_or (lowest_out n set) (set (suc n)) (suc n)
+lowest_out (suc count) set = first_or (lowest_out count set) (set (suc count)) (suc count)

@@ -1,6 +1,8 @@
 //! What a crew counts.
 ghost use Rattle.std.specs.Prelude.{◌≡◌, ◌+◌, ◌-◌, ◌^◌, ◌≤◌, min};
-ghost use Rattle.shelf.specs.Causes.{Rose};
+ghost use Rattle.counters.specs.Counts.{Rose};
+
+use counters::raised;
 
 /// How many starts were refused, and how many members attended. At its last value a number stands still.
 #[derive(Drop)]
@@ -26,7 +28,7 @@ impl Counts {
         ensures later { self.old.faults ≤ self.new.faults }
         ensures attended { self.new.attended ≡ self.old.attended }
     {
-        self.faults = self.faults.saturating_add(1);
+        self.faults = raised(self.faults);
     }
 
     // So many members attended.

@@ -1,6 +1,7 @@
 //! What runs members.
 ghost use Rattle.std.specs.Prelude.{◌≡◌, ℕ, ◌+◌, ◌-◌, ◌^◌, ◌≤◌, Option, None, IsTrue, min};
-ghost use Rattle.shelf.specs.Causes.{Rose, Schedule};
+ghost use Rattle.shelf.specs.Causes.{Schedule};
+ghost use Rattle.counters.specs.Counts.{Rose};
 ghost use Rattle.crews.specs.Crews.{Asks};
 
 use crate::hold::Hold;

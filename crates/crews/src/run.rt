@@ -1,6 +1,6 @@
 //! Running members beside one another.
 ghost use Rattle.std.specs.Prelude.{◌≡◌, ◌⊎◌, ℕ, ◌+◌, ◌-◌, ◌^◌, ◌≤◌, length, IfOk, IsOk, Err, min};
-ghost use Rattle.shelf.specs.Causes.{Rose};
+ghost use Rattle.counters.specs.Counts.{Rose};
 ghost use Rattle.crews.specs.Crews.{AllReady, EachAttended};
 
 use crate::starts::{Halt, Plan, Stop, run_members};

@@ -1,5 +1,5 @@
 pub mod Parts
 pub mod Lists
 pub mod Lawful
-pub mod Told
+pub mod Ordered
 pub mod Spelled

@@ -22,7 +22,7 @@ use Rattle.drillbook.specs.Text.{split, some_if, plain_verb, argued_verb, elemen
 use Rattle.drillbook.specs.Law.{ReadIsSpelled, SpelledIsRead, verb_text, order_text}
 use Rattle.decimals.specs.Decimals.{number_in}
 use Rattle.decimals.proofs.Numbers.{own, found_below, read_below}
-use Rattle.drillbook.proofs.Told.{allowed_names}
+use Rattle.drillbook.proofs.Ordered.{allowed_names}
 use Rattle.drillbook.proofs.Lawful.{same_some, some_if_true, order_in_lawful, judged_adds}
 
 -- A number's word.

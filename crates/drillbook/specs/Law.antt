@@ -14,8 +14,8 @@ abbrev pub UnnamedSpeaks : Type 0
 UnnamedSpeaks = (s : Shape) (orders : List Order) (seat round : ℕ) (second w : Say) → names orders seat ≡ false → drilled_word s orders seat round second w ≡ w
 
 -- in a round without an order of its own a seat says its own word
-abbrev pub UntoldSpeaks : Type 0
-UntoldSpeaks = (s : Shape) (orders : List Order) (seat round : ℕ) (second w : Say) → order_at orders seat round ≡ None → drilled_word s orders seat round second w ≡ w
+abbrev pub SpeaksWithoutOrder : Type 0
+SpeaksWithoutOrder = (s : Shape) (orders : List Order) (seat round : ℕ) (second w : Say) → order_at orders seat round ≡ None → drilled_word s orders seat round second w ≡ w
 
 -- how a verb is spelled
 abbrev pub verb_text : Verb → List ℕ

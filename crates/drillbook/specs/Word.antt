@@ -137,30 +137,30 @@ vetoed (Syndromes xs) = Syndromes xs
 
 -- What a verb makes of a post. second: the own word of the second round. Wrong changes the grids of which a dealer's word is
 -- made, and not the word
-abbrev pub told_post : Shape → ℕ → Say → Verb → Post → Post
-told_post s round second Garble p = Votes []
-told_post s round second (Skew k) p = skewed_post round k p
-told_post s round second (Accuse j) p = accused (instances s) j (ring_in (s.shift + j) second) p
-told_post s round second Veto p = vetoed p
-told_post s round second (Wrong k) p = p
-told_post s round second Late p = p
-told_post s round second Silent p = p
+abbrev pub ordered_post : Shape → ℕ → Say → Verb → Post → Post
+ordered_post s round second Garble p = Votes []
+ordered_post s round second (Skew k) p = skewed_post round k p
+ordered_post s round second (Accuse j) p = accused (instances s) j (ring_in (s.shift + j) second) p
+ordered_post s round second Veto p = vetoed p
+ordered_post s round second (Wrong k) p = p
+ordered_post s round second Late p = p
+ordered_post s round second Silent p = p
 
 -- and of the ring messages
-abbrev pub told_rings : Shape → ℕ → ℕ → Verb → List Ring → List Ring
-told_rings s seat round Garble rs = garbled_rings (seats s) seat
-told_rings s seat round (Skew k) rs = skewed_rings s seat round k rs
-told_rings s seat round (Accuse j) rs = rs
-told_rings s seat round Veto rs = rs
-told_rings s seat round (Wrong k) rs = rs
-told_rings s seat round Late rs = rs
-told_rings s seat round Silent rs = rs
+abbrev pub ordered_rings : Shape → ℕ → ℕ → Verb → List Ring → List Ring
+ordered_rings s seat round Garble rs = garbled_rings (seats s) seat
+ordered_rings s seat round (Skew k) rs = skewed_rings s seat round k rs
+ordered_rings s seat round (Accuse j) rs = rs
+ordered_rings s seat round Veto rs = rs
+ordered_rings s seat round (Wrong k) rs = rs
+ordered_rings s seat round Late rs = rs
+ordered_rings s seat round Silent rs = rs
 
 -- a post and ring messages that a verb has changed, said in time or late as before. Who passes goes on passing
-abbrev pub retold : Shape → ℕ → ℕ → Say → Verb → Say → Say
-retold s seat round second v (Speak p rs) = Speak (told_post s round second v p) (told_rings s seat round v rs)
-retold s seat round second v Pass = Pass
-retold s seat round second v (PassThenSpeak p rs) = PassThenSpeak (told_post s round second v p) (told_rings s seat round v rs)
+abbrev pub reworded : Shape → ℕ → ℕ → Say → Verb → Say → Say
+reworded s seat round second v (Speak p rs) = Speak (ordered_post s round second v p) (ordered_rings s seat round v rs)
+reworded s seat round second v Pass = Pass
+reworded s seat round second v (PassThenSpeak p rs) = PassThenSpeak (ordered_post s round second v p) (ordered_rings s seat round v rs)
 
 -- late: what it says comes after passing
 abbrev pub late_word : Say → Say
@@ -169,19 +169,19 @@ late_word Pass = Pass
 late_word (PassThenSpeak p rs) = PassThenSpeak p rs
 
 -- what is said in place of a word, by the verb of the seat's order for the round
-abbrev pub told_word : Shape → ℕ → ℕ → Say → Option Verb → Say → Say
-told_word s seat round second None w = w
-told_word s seat round second (Some Silent) w = Pass
-told_word s seat round second (Some Late) w = late_word w
-told_word s seat round second (Some Garble) w = retold s seat round second Garble w
-told_word s seat round second (Some (Skew k)) w = retold s seat round second (Skew k) w
-told_word s seat round second (Some (Wrong k)) w = w
-told_word s seat round second (Some (Accuse j)) w = retold s seat round second (Accuse j) w
-told_word s seat round second (Some Veto) w = retold s seat round second Veto w
+abbrev pub ordered_word : Shape → ℕ → ℕ → Say → Option Verb → Say → Say
+ordered_word s seat round second None w = w
+ordered_word s seat round second (Some Silent) w = Pass
+ordered_word s seat round second (Some Late) w = late_word w
+ordered_word s seat round second (Some Garble) w = reworded s seat round second Garble w
+ordered_word s seat round second (Some (Skew k)) w = reworded s seat round second (Skew k) w
+ordered_word s seat round second (Some (Wrong k)) w = w
+ordered_word s seat round second (Some (Accuse j)) w = reworded s seat round second (Accuse j) w
+ordered_word s seat round second (Some Veto) w = reworded s seat round second Veto w
 
 -- what the seat says in a round under a drill, given its own word of the second round (Pass before it) and that of this round
 unfoldable pub drilled_word : Shape → List Order → ℕ → ℕ → Say → Say → Say
-drilled_word s orders seat round second w = told_word s seat round second (order_at orders seat round) w
+drilled_word s orders seat round second w = ordered_word s seat round second (order_at orders seat round) w
 
 -- the verb accuses someone
 abbrev pub is_accusing : Option Verb → Bool
@@ -207,7 +207,7 @@ pub record DrilledMind (M : Type 0) : Type 0 where
 abbrev pub kept_word : List Order → ℕ → ℕ → Say → Say → Say
 kept_word orders seat round second w = cond (eqb round 2 && is_accusing (order_at orders seat 3)) w second
 
--- how a drilled mind goes: the mind inside goes as it does, and what it says is told as drilled
+-- how a drilled mind goes: the mind inside goes as it does, and what it says is what the drill makes of it
 abbrev pub drilled_ways : {M : Type 0} → Ways M → Ways (DrilledMind M)
 drilled_ways w = record {
   word = λ d round. drilled_word d.shape d.orders d.seat round d.second (w.word d.inner round);

@@ -1,12 +1,12 @@
 //! Laws of drills. Each function says its law and does nothing.
 
-ghost use Rattle.drillbook.specs.Law.{ReadIsSpelled, SpelledIsRead, UnnamedSpeaks, UntoldSpeaks};
+ghost use Rattle.drillbook.specs.Law.{ReadIsSpelled, SpelledIsRead, UnnamedSpeaks, SpeaksWithoutOrder};
 
 /// A seat that no order names, and a seat in a round without an order of its own, says its own word.
-#[tactic(auto, using(crate::proofs::Told::unnamed_speaks, crate::proofs::Told::untold_speaks))]
-pub fn who_is_not_told_says_its_own_word()
+#[tactic(auto, using(crate::proofs::Ordered::unnamed_speaks, crate::proofs::Ordered::speaks_without_order))]
+pub fn who_has_no_order_says_its_own_word()
     ensures unnamed { UnnamedSpeaks }
-    ensures untold { UntoldSpeaks }
+    ensures no_order { SpeaksWithoutOrder }
 {}
 
 /// A line is read as an order exactly where it is that order's spelling: each lawful order's line is read as

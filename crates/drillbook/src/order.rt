@@ -26,7 +26,7 @@ pub enum Verb {
     Veto,
 }
 
-/// One line of a drill: what a party is told to do in a round.
+/// One line of a drill: what a party is to do in a round.
 #[derive(Clone, Copy, Debug)]
 pub struct Order {
     /// The seat, from 1.

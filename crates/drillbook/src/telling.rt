@@ -6,7 +6,7 @@ ghost use Rattle.talk.specs.Basics.{places};
 ghost use Rattle.talk.specs.Shape.{seats, instances};
 ghost use Rattle.talk.specs.Sync.{ring_in};
 ghost use Rattle.drillbook.specs.Orders.{AllLawful, NamesReceiver};
-ghost use Rattle.drillbook.specs.Word.{accused, accused_row, added_each, complaints_of, drilled_word, garbled_rings, is_on, late_word, lie_in, lowest_other, retold, ring_changed, skewed_cross, skewed_deal, skewed_post, skewed_reveal, skewed_reveals, skewed_rings, skewed_row, skewed_values, told_post, told_rings, told_word, vetoed};
+ghost use Rattle.drillbook.specs.Word.{accused, accused_row, added_each, complaints_of, drilled_word, garbled_rings, is_on, late_word, lie_in, lowest_other, reworded, ring_changed, skewed_cross, skewed_deal, skewed_post, skewed_reveal, skewed_reveals, skewed_rings, skewed_row, skewed_values, ordered_post, ordered_rings, ordered_word, vetoed};
 
 use crate::side::Side;
 use crate::{Drill, Verb};
@@ -18,7 +18,7 @@ use talk::{
 };
 
 // What a seat says under a drill in place of a word. `second` is the seat's own word of the second round.
-#[tactic(auto, using(crate::proofs::Told::names_receiver), unfolding(crate::specs::Word::drilled_word))]
+#[tactic(auto, using(crate::proofs::Ordered::names_receiver), unfolding(crate::specs::Word::drilled_word))]
 pub(crate) fn drilled(
     alloc: Global,
     s: &Setting,
@@ -33,12 +33,12 @@ pub(crate) fn drilled(
 {
     match drill.order_at(seat, round) {
         None => Ok(word),
-        Some(verb) => told(alloc, s, seat, round, second, verb, word),
+        Some(verb) => ordered(alloc, s, seat, round, second, verb, word),
     }
 }
 
 // What it says by a verb.
-fn told(
+fn ordered(
     alloc: Global,
     s: &Setting,
     seat: u32,
@@ -48,14 +48,14 @@ fn told(
     word: Say,
 ) -> Result<Say, OutOfMemory>
     requires { NamesReceiver s.now verb }
-    ensures { IfOk result (λ w. w ≡ told_word s.now seat round second.now (Some verb) word) }
+    ensures { IfOk result (λ w. w ≡ ordered_word s.now seat round second.now (Some verb) word) }
 {
     match verb {
         Verb::Silent => Ok(Say::Pass),
         Verb::Late => Ok(late(word)),
         Verb::Wrong { .. } => Ok(word),
         Verb::Garble | Verb::Skew { .. } | Verb::Accuse { .. } | Verb::Veto => {
-            retold(alloc, s, seat, round, second, verb, word)
+            reworded(alloc, s, seat, round, second, verb, word)
         }
     }
 }
@@ -71,7 +71,7 @@ fn late(word: Say) -> Say
 }
 
 // The word with its post and its ring messages as a verb changes them.
-fn retold(
+fn reworded(
     alloc: Global,
     s: &Setting,
     seat: u32,
@@ -81,23 +81,23 @@ fn retold(
     word: Say,
 ) -> Result<Say, OutOfMemory>
     requires { NamesReceiver s.now verb }
-    ensures { IfOk result (λ w. w ≡ retold s.now seat round second.now verb word) }
+    ensures { IfOk result (λ w. w ≡ reworded s.now seat round second.now verb word) }
 {
     match word {
         Say::Pass => Ok(Say::Pass),
         Say::Speak { post, rings } => Ok(Say::Speak {
-            post: told_post(alloc, s, round, second, verb, post)?,
-            rings: told_rings(alloc, s, seat, round, verb, rings)?,
+            post: ordered_post(alloc, s, round, second, verb, post)?,
+            rings: ordered_rings(alloc, s, seat, round, verb, rings)?,
         }),
         Say::PassThenSpeak { post, rings } => Ok(Say::PassThenSpeak {
-            post: told_post(alloc, s, round, second, verb, post)?,
-            rings: told_rings(alloc, s, seat, round, verb, rings)?,
+            post: ordered_post(alloc, s, round, second, verb, post)?,
+            rings: ordered_rings(alloc, s, seat, round, verb, rings)?,
         }),
     }
 }
 
 // What a verb makes of a post.
-fn told_post(
+fn ordered_post(
     alloc: Global,
     s: &Setting,
     round: u32,
@@ -106,7 +106,7 @@ fn told_post(
     post: Post,
 ) -> Result<Post, OutOfMemory>
     requires { NamesReceiver s.now verb }
-    ensures { IfOk result (λ p. p ≡ told_post s.now round second.now verb post) }
+    ensures { IfOk result (λ p. p ≡ ordered_post s.now round second.now verb post) }
 {
     match verb {
         Verb::Garble => Ok(Post::Votes {
@@ -120,7 +120,7 @@ fn told_post(
 }
 
 // What a verb makes of the ring messages.
-fn told_rings(
+fn ordered_rings(
     alloc: Global,
     s: &Setting,
     seat: u32,
@@ -128,7 +128,7 @@ fn told_rings(
     verb: Verb,
     rings: RingList,
 ) -> Result<RingList, OutOfMemory>
-    ensures { IfOk result (λ l. l ≡ told_rings s.now seat round verb rings) }
+    ensures { IfOk result (λ l. l ≡ ordered_rings s.now seat round verb rings) }
 {
     match verb {
         Verb::Garble => garbled_rings(alloc, s.seats(), seat),

@@ -5,7 +5,7 @@ use Rattle.std.proofs.lemmas.List.FromFn.{get_or-map-range_with_len}
 use Rattle.algebra61.specs.Field.{Fp, Prime}
 use Rattle.sharing61.specs.Rules.{Pair}
 use Rattle.sharing61.specs.Instance.{held, vote, accepted, kept}
-use Rattle.sizes.specs.Instances.{dealer_of, lane_of}
+use Rattle.sizes.specs.Instances.{dealer_of, lane_of, instance_at}
 use Rattle.talk.specs.declared.messages.Post.{Post}
 use Rattle.talk.specs.declared.messages.Post.TheVariants.{Quiet}
 use Rattle.talk.specs.declared.messages.Ring.{Ring}
@@ -93,7 +93,7 @@ module _ (p : Play) (j : ℕ) (own : List (List (List Fp))) (lw : Lawful p.shape
       let same : dealer_of i ≡ seat_of p.shape j = eqb-true (dealer_of i) (seat_of p.shape j) e in
       let most : dealer_of i ≤ p.shape.dealers = omega (arith, lt) in (
         ap p.down same ∙ s.up,
-        og (lane_of i) (lane_below i) (omega (arith, same, most)) ∙ ap (λ k. p.grid ((k - 1) * 5 + lane_of i)) (sym same) ∙ ap p.grid (place_is i),
+        og (lane_of i) (lane_below i) (omega (arith, same, most)) ∙ ap (λ k. p.grid (instance_at k (lane_of i))) (sym same) ∙ ap p.grid (place_is i),
       )
 
   received_is : received p.shape j ≡ instances p.shape

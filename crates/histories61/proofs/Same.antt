@@ -3,7 +3,8 @@ use Rattle.std.proofs.Common.{◌≡◌, ℕ, ◌-◌, ◌<◌, ◌≤◌, Bool,
 use Rattle.algebra61.specs.Field.{Fp, zeroₚ}
 use Rattle.algebra61.specs.Poly.{eval}
 use Rattle.checks61.proofs.Errors.{syndrome_same, check_same}
-use Rattle.sharing61.specs.Rules.{Pair, Two, at_point, pair_on, complaint_of, off_grid, shown_if, votes_yes, kept_of}
+use Rattle.sharing61.specs.Rules.{Pair, at_point, pair_on, complaint_of, off_grid, shown_if, votes_yes, kept_of}
+use Rattle.sharing61.specs.declared.Crossing.{Crossing}
 use Rattle.sharing61.specs.Instance.{held, held_from, crossing_pair, complaint, shown, shown_from, vote, accepted, kept, share}
 use Rattle.sharing61.proofs.Count.{anyone_same, how_many_same}
 use Rattle.sizes.specs.Instances.{dealer_of, lane_of, instance_at}
@@ -52,7 +53,7 @@ module _ (p : Play) (grid : ℕ → List (List Fp)) (post : ℕ → ℕ → Post
   complaint_same i j k lt j1 jn k1 kn =
       cond_same (p.down (seat_of p.shape j)) _ _ _ _
       (λ e. ap (listed_in i k) (ag.posts 3 (seat_of p.shape j) (omega arith) (omega arith) (omega (arith, j1)) (omega (arith, jn)) e))
-      (ap₂ (λ (q : Pair) (o : Option Two). complaint_of (at_point q k) o) (held_same i j lt j1 jn) (crossing_same i k j lt k1 kn j1 jn))
+      (ap₂ (λ (q : Pair) (o : Option Crossing). complaint_of (at_point q k) o) (held_same i j lt j1 jn) (crossing_same i k j lt k1 kn j1 jn))
 
   shown_by : (i j : ℕ) (b : Bool) → p.down (dealer_of i) ≡ b → i < instances p.shape → 1 ≤ j → j ≤ p.shape.receivers →
       shown_from (instance_of (with_other p grid post ring) i) (dealer_if b (with_other p grid post ring) i) j ≡ shown_from (instance_of p i) (dealer_if b p i) j

@@ -9,6 +9,7 @@ use Rattle.sharing61.specs.Rules.{Pair}
 use Rattle.sharing61.specs.Instance.{share}
 use Rattle.sharing61.specs.Agreement.{HonestReceiver}
 use Rattle.sharing61.proofs.Values.{eval-poly}
+use Rattle.sizes.specs.Instances.{instance_at}
 use Rattle.talk.specs.Shape.{Shape, Lawful, create_shape, refresh_shape, move_shape}
 use Rattle.plays.specs.Play.{Play, instance_of, lane_sum}
 use Rattle.plays.specs.Law.{IsPlay, ProperPlay, HonestIn}
@@ -44,7 +45,7 @@ zero_share s i j proper lt honest =
 zero_sum : (s : Shape) (l j : ℕ) → ProperPlay (zero_play s nobody_of) → l < 5 → HonestIn (zero_play s nobody_of) j → (n : ℕ) → n ≤ s.dealers → lane_sum n (zero_play s nobody_of) l j ≡ zeroₚ
 zero_sum s l j proper l5 honest zero le = refl
 zero_sum s l j proper l5 honest (suc n) le =
-    ap₂ (λ a b. a +ₚ b) (zero_sum s l j proper l5 honest n (omega (arith, le))) (zero_share s (n * 5 + l) j proper (omega (arith, le, l5)) honest) ∙ add_zero zeroₚ
+    ap₂ (λ a b. a +ₚ b) (zero_sum s l j proper l5 honest n (omega (arith, le))) (zero_share s (instance_at (suc n) l) j proper (omega (arith, le, l5)) honest) ∙ add_zero zeroₚ
 
 -- ---- the phases
 first_fits : FirstFits Created (example_play 0)

@@ -34,14 +34,14 @@ next_share Moved play lane error receiver old = moved_share play lane error rece
 -- vectors follow from the plays
 abbrev pub share_after_phase : Course → (ℕ → List (List Fp)) → ℕ → ℕ → ℕ → Fp
 share_after_phase course errors zero lane receiver = created_share (course.play 0) lane receiver
-share_after_phase course errors (suc k) lane receiver =
-    next_share (course.kind (suc k)) (course.play (suc k)) lane (get_or (errors (suc k)) lane []) receiver (share_after_phase course errors k lane receiver)
+share_after_phase course errors (suc phase) lane receiver =
+    next_share (course.kind (suc phase)) (course.play (suc phase)) lane (get_or (errors (suc phase)) lane []) receiver (share_after_phase course errors phase lane receiver)
 
 -- ---- histories
 -- the phase may stand where it stands
 abbrev pub PhaseFits : Course → (ℕ → List (List Fp)) → ℕ → Type 0
 PhaseFits course errors zero = FirstFits (course.kind 0) (course.play 0)
-PhaseFits course errors (suc k) = NextFits (course.kind (suc k)) (course.play k) (course.play (suc k)) (share_after_phase course errors k)
+PhaseFits course errors (suc phase) = NextFits (course.kind (suc phase)) (course.play phase) (course.play (suc phase)) (share_after_phase course errors phase)
 
 -- the first n phases may stand where they stand, and these are the error vectors of their moves. It doesn't matter here who
 -- is exposed

@@ -21,7 +21,7 @@ receivers_down play receiver = play.down (seat_of play.shape receiver)
 
 -- whom the first test names of 1 to n, the second names too
 abbrev pub Within : ℕ → (ℕ → Bool) → (ℕ → Bool) → Type 0
-Within n some all = (k : ℕ) → 1 ≤ k → k ≤ n → some k ≡ true → all k ≡ true
+Within count some all = (k : ℕ) → 1 ≤ k → k ≤ count → some k ≡ true → all k ≡ true
 
 -- who is exposed of a committee of this size and bound
 pub record IsExposure (size bound : ℕ) (down exposed : ℕ → Bool) : Type 0 where

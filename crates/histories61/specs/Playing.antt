@@ -41,7 +41,7 @@ stage_in_play play receiver (suc (suc (suc zero))) =
 stage_in_play play receiver (suc (suc (suc (suc zero)))) =
     AtRevealed (pairs_in_play play receiver) (map (post_heard play 4) (points_up_to (seats play.shape)))
     (vote_list (instances play.shape) (λ instance. vote (instance_of play instance) receiver))
-stage_in_play play receiver (suc (suc (suc (suc (suc n))))) = done_stage play receiver
+stage_in_play play receiver (suc (suc (suc (suc (suc later))))) = done_stage play receiver
 
 -- an honest receiver that hears the play comes to what the play defines, round by round, where each dealer deals and reveals
 -- what has the setting's degree

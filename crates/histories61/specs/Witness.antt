@@ -13,24 +13,24 @@ abbrev pub zero_play : Shape → (ℕ → Bool) → Play
 zero_play shape down = record { shape = shape; down = down; grid = λ i. []; post = λ round seat. Quiet; ring = λ round seat to. Nothing }
 
 abbrev pub nobody_of : ℕ → Bool
-nobody_of k = false
+nobody_of member = false
 
 abbrev pub the_first : ℕ → Bool
-the_first k = eqb k 1
+the_first member = eqb member 1
 
 abbrev pub example_kind : ℕ → Kind
 example_kind zero = Created
 example_kind (suc zero) = Moved
-example_kind (suc (suc k)) = Refreshed
+example_kind (suc (suc phase)) = Refreshed
 
 abbrev pub example_play : ℕ → Play
 example_play zero = zero_play (create_shape 4 1) nobody_of
 example_play (suc zero) = zero_play (move_shape 4 1 4 1) nobody_of
-example_play (suc (suc k)) = zero_play (refresh_shape 4 1) the_first
+example_play (suc (suc phase)) = zero_play (refresh_shape 4 1) the_first
 
 abbrev pub example_exposed : ℕ → ℕ → Bool
 example_exposed zero = nobody_of
-example_exposed (suc k) = the_first
+example_exposed (suc phase) = the_first
 
 abbrev pub example_course : Course
 example_course = record { phases = 3; kind = example_kind; play = example_play; exposed = example_exposed }

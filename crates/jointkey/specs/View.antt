@@ -5,8 +5,8 @@ use Rattle.members.specs.Member.{Member}
 use Rattle.jointkey.specs.declared.create.Create.TheInside.{Inside}
 
 abbrev pub view_create : (N : ℕ) → Inside N → Member
-view_create N a = a.inner
+view_create N inside = inside.inner
 
 -- a receiver sits on its seat
 abbrev pub Whole : (N : ℕ) → Inside N → Type 0
-Whole N a = receives a.inner.shape a.inner.seat ≡ true
+Whole N inside = receives inside.inner.shape inside.inner.seat ≡ true

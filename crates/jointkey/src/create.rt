@@ -91,7 +91,8 @@ impl<const N: usize> Create<N> {
         requires small { N ≤ 15 }
         requires bound { (1 ≤ t) × (3 * t < N) }
         requires member { (1 ≤ me) × (me ≤ N) }
-        ensures is { IfOk result (λ m. m ≡ member_at (create_shape N t) me (five_grids_drawn t chance.old.seed chance.old.taken).0) }
+        ensures is { IfOk result
+            (λ m. m ≡ member_at (create_shape N t) me (five_grids_drawn t chance.old.seed chance.old.taken).0) }
         ensures after { OnOk result (chance.new ≡ record {
           seed = chance.old.seed;
           taken = (five_grids_drawn t chance.old.seed chance.old.taken).1;

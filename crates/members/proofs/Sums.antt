@@ -13,7 +13,7 @@ use Rattle.sharing61.specs.Agreement.{HonestReceiver}
 use Rattle.sharing61.proofs.Values.{eval-poly}
 use Rattle.plays.proofs.Proper.{honest_dealers_in_plays}
 use Rattle.talk.specs.Shape.{instances}
-use Rattle.sizes.specs.Instances.{dealer_of}
+use Rattle.sizes.specs.Instances.{dealer_of, instance_at}
 use Rattle.plays.specs.Play.{Play, instance_of, seat_of, lane_sum, created_share}
 use Rattle.plays.specs.Law.{ProperPlay}
 use Rattle.plays.specs.Run.{done_stage}
@@ -31,7 +31,7 @@ pub sum_is : (p : Play) (l j n : ℕ) → l < 5 → n ≤ p.shape.dealers → sh
 sum_is p l j zero l5 le = refl
 sum_is p l j (suc n) l5 le =
     ap₂ (λ a b. a +ₚ b) (sum_is p l j n l5 (omega (arith, le)))
-    (ap (λ (q : Pair). eval q.row.coeffs zeroₚ) (kept_place p (n * 5 + l) j (omega (arith, l5, le))))
+    (ap (λ (q : Pair). eval q.row.coeffs zeroₚ) (kept_place p (instance_at (suc n) l) j (omega (arith, l5, le))))
 
 count_map : (f : ℕ → Bool) (n a : ℕ) → count_by (λ b. b) (map f (range_with_len a n)) ≡ count_by f (range_with_len a n)
 count_map f zero a = refl
@@ -71,12 +71,11 @@ plain_share p i j proper up lt from to =
     ∙ eval-poly (row (p.grid i) (fe j)) zeroₚ
 
 plain_sum : (p : Play) (l j : ℕ) → ProperPlay p → NobodyDown p → l < 5 → 1 ≤ j → j ≤ p.shape.receivers → (n : ℕ) → n ≤ p.shape.dealers →
-    lane_sum n p l j ≡ sum_below n (λ i. grid_at (p.grid (5 * i + l)) zeroₚ (fe j))
+    lane_sum n p l j ≡ sum_below n (λ i. grid_at (p.grid (instance_at (suc i) l)) zeroₚ (fe j))
 plain_sum p l j proper up l5 from to zero le = refl
 plain_sum p l j proper up l5 from to (suc n) le =
-    let e : n * 5 + l ≡ 5 * n + l = omega arith in
     ap₂ (λ a b. a +ₚ b) (plain_sum p l j proper up l5 from to n (omega (arith, le)))
-    (plain_share p (n * 5 + l) j proper up (omega (arith, l5, le)) from to ∙ ap (λ i. grid_at (p.grid i) zeroₚ (fe j)) e)
+    (plain_share p (instance_at (suc n) l) j proper up (omega (arith, l5, le)) from to)
 
 pub plain_shares : PlainShares
 plain_shares p l j proper up l5 from to = plain_sum p l j proper up l5 from to p.shape.dealers (omega arith)

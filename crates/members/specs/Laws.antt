@@ -1,7 +1,8 @@
 -- What holds of the shares that members have in the end.
-use Rattle.std.specs.Prelude.{◌≡◌, ℕ, ◌+◌, ◌-◌, ◌*◌, ◌<◌, ◌≤◌, Bool, false, List, [], length, take, get_or, map, All, Option}
+use Rattle.std.specs.Prelude.{◌≡◌, ℕ, suc, ◌+◌, ◌-◌, ◌*◌, ◌<◌, ◌≤◌, Bool, false, List, [], length, take, get_or, map, All, Option}
 use Rattle.algebra61.specs.Field.{Fp, zeroₚ, fe}
 use Rattle.algebra61.specs.Grid.{Degree, grid_at}
+use Rattle.sizes.specs.Instances.{instance_at}
 use Rattle.bivar61.specs.Sums.{sum_below}
 use Rattle.talk.specs.Shape.{Shape, Lawful, seats}
 use Rattle.talk.specs.Sync.{Ways, AllAllowed, all_seats, sync}
@@ -28,7 +29,7 @@ PlainShares =
     (play : Play) (lane receiver : ℕ) → ProperPlay play → NobodyDown play → lane < 5 → 1 ≤ receiver →
     receiver ≤ play.shape.receivers →
     created_share play lane receiver
-    ≡ sum_below play.shape.dealers (λ i. grid_at (play.grid (5 * i + lane)) zeroₚ (fe receiver))
+    ≡ sum_below play.shape.dealers (λ i. grid_at (play.grid (instance_at (suc i) lane)) zeroₚ (fe receiver))
 
 -- the member is of the play's setting, and has come to the end that the play defines for the receiver
 pub record DoneAs (play : Play) (receiver : ℕ) (member : Member) : Type 0 where
@@ -57,8 +58,8 @@ pub record BeginSharing {M : Type 0} (ways : Ways M) (is : M → Member → Type
 
 -- the member of a receiver that has come to the end that a play defines
 abbrev pub member_done : Play → (ℕ → List (List (List Fp))) → ℕ → Member
-member_done p own receiver =
-    record { shape = p.shape; seat = seat_of p.shape receiver; grids = own (seat_of p.shape receiver); stage = done_stage p receiver }
+member_done play own receiver =
+    record { shape = play.shape; seat = seat_of play.shape receiver; grids = own (seat_of play.shape receiver); stage = done_stage play receiver }
 
 -- The laws of such minds, whatever minds sit on the other seats; which member a mind stands for is told by a partial
 -- function.

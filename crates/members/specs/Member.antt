@@ -19,27 +19,27 @@ pub record Member : Type 0 where
 
 -- a member before the first round
 abbrev pub member_at : Shape → ℕ → List (List (List Fp)) → Member
-member_at s seat own = record { shape = s; seat = seat; grids = own; stage = AtReady }
+member_at shape seat own = record { shape = shape; seat = seat; grids = own; stage = AtReady }
 
 -- what a seat sends to each seat, in order, none to itself
 abbrev pub rings_said : Shape → ℕ → List (List (List Fp)) → Stage → List Ring
-rings_said s seat own stage = map (stage_ring s seat own stage) (points_up_to (seats s))
+rings_said shape seat own stage = map (stage_ring shape seat own stage) (points_up_to (seats shape))
 
 -- a member always speaks in time
 abbrev pub member_word : Member → ℕ → Say
-member_word m round = Speak (stage_post m.shape m.seat m.grids m.stage) (rings_said m.shape m.seat m.grids m.stage)
+member_word member round = Speak (stage_post member.shape member.seat member.grids member.stage) (rings_said member.shape member.seat member.grids member.stage)
 
 -- saying its word changes nothing of it
 abbrev pub member_after_say : Member → ℕ → Member
-member_after_say m round = m
+member_after_say member round = member
 
 -- after hearing, it is at the next stage
 abbrev pub member_after_hear : Member → ℕ → Heard → Member
-member_after_hear m round h = record m { stage = stage_after m.shape (receiver_at m.shape m.seat) m.grids h m.stage }
+member_after_hear member round heard = record member { stage = stage_after member.shape (receiver_at member.shape member.seat) member.grids heard member.stage }
 
 abbrev pub member_ways : Ways Member
 member_ways = ways member_word member_after_say member_after_hear
 
 -- the round is the member's
 abbrev pub member_turn : ℕ → Member → Type 0
-member_turn round m = IsTurn round m.stage
+member_turn round member = IsTurn round member.stage

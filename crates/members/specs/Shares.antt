@@ -5,6 +5,7 @@ use Rattle.algebra61.specs.Field.{Fp, zeroₚ, ◌+ₚ◌}
 use Rattle.algebra61.specs.Poly.{eval}
 use Rattle.sharing61.specs.Rules.{Pair}
 use Rattle.sharing61.specs.Instance.{accepted}
+use Rattle.sizes.specs.Instances.{instance_at}
 use Rattle.talk.specs.Shape.{instances}
 use Rattle.plays.specs.Play.{Play, instance_of}
 use Rattle.plays.specs.Said.{places}
@@ -14,8 +15,8 @@ use Rattle.members.specs.Member.{Member}
 
 -- the sum over the dealers 1 to n of the value at 0 of the row in lane l
 abbrev pub share_sum : ℕ → List Pair → ℕ → Fp
-share_sum zero pairs l = zeroₚ
-share_sum (suc n) pairs l = share_sum n pairs l +ₚ eval (pair_at pairs (n * 5 + l)).row.coeffs zeroₚ
+share_sum zero pairs lane = zeroₚ
+share_sum (suc count) pairs lane = share_sum count pairs lane +ₚ eval (pair_at pairs (instance_at (suc count) lane)).row.coeffs zeroₚ
 
 -- all rounds of the sharing are heard
 abbrev pub IsDone : Stage → Type 0
@@ -50,11 +51,11 @@ accepted_in stage = count_by (λ b. b) (answers_in stage)
 
 -- a member's share in lane l, once it is done, and its five shares
 abbrev pub member_share : Member → ℕ → Fp
-member_share m l = share_sum m.shape.dealers (kept_in m.stage) l
+member_share member lane = share_sum member.shape.dealers (kept_in member.stage) lane
 
 abbrev pub member_shares : Member → List Fp
-member_shares m = map (member_share m) (places 5)
+member_shares member = map (member_share member) (places 5)
 
 -- how many of a play's instances are accepted
 abbrev pub accepted_count : Play → ℕ
-accepted_count p = count_by (λ i. accepted (instance_of p i)) (places (instances p.shape))
+accepted_count play = count_by (λ i. accepted (instance_of play i)) (places (instances play.shape))

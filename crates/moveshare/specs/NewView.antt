@@ -5,7 +5,7 @@ use Rattle.periods.specs.Mover.{Mover}
 use Rattle.moveshare.specs.declared.new.MoveNew.TheInside.{Inside}
 
 abbrev pub view_new : (N M : ℕ) → Inside N M → Mover
-view_new N M a = a.seat
+view_new N M mover = mover.seat
 
 -- a receiver sits on its seat
 pub record WholeNew (N M : ℕ) (a : Inside N M) : Type 0 where

@@ -5,4 +5,4 @@ use Rattle.periods.specs.Mover.{Mover}
 use Rattle.moveshare.specs.declared.old.MoveOld.TheInside.{Inside}
 
 abbrev pub view_old : (N : ℕ) → Inside N → Part Mover
-view_old N a = a.part
+view_old N inside = inside.part

@@ -4,7 +4,7 @@ use Rattle.periods.specs.Mover.{Mover}
 use Rattle.moveshare.specs.Seat.{IsMoving, IsKeptAt}
 
 abbrev pub view_seat : Inside → Mover
-view_seat a = record { member = a.sharer; sixth = a.sixth }
+view_seat inside = record { member = inside.sharer; sixth = inside.sixth }
 
 pub record WholeSeat (a : Inside) : Type 0 where
   pub moving : IsMoving a.sharer.shape

@@ -62,9 +62,11 @@ impl<const N: usize> Mind for MoveOld<N> {
 
     fn say(&mut self, alloc: Global, round: u32) -> Result<Say, OutOfMemory>
         ensures word { IfOk result (λ w. w ≡ part_word mover_word self.old round) }
-        ensures rings { IfOk result (λ w. (s : Shape) (seat : ℕ) → part_made_for MadeForMove self.old s seat → WordFits s seat w) }
+        ensures rings { IfOk result
+            (λ w. (s : Shape) (seat : ℕ) → part_made_for MadeForMove self.old s seat → WordFits s seat w) }
         ensures after { OnOk result (self.new ≡ part_after_say mover_after_say self.old round) }
-        ensures kept { OnErr result (StaysMade (part_made_for MadeForMove self.old) (part_made_for MadeForMove self.new)) }
+        ensures kept { OnErr result
+            (StaysMade (part_made_for MadeForMove self.old) (part_made_for MadeForMove self.new)) }
         ensures same { OnErr result (self.new ≡ self.old) }
     {
         match &mut self.part {
@@ -94,7 +96,10 @@ impl<const N: usize> MoveOld<N> {
         requires old { IsCommittee N bound }
         requires new { IsCommittee receivers new_bound }
         requires member { (1 ≤ me) × (me ≤ N) }
-        ensures is { IfOk result (λ p. p ≡ In (mover_at (move_shape N bound receivers new_bound) me (five_grids_drawn_with new_bound shares chance.old.seed chance.old.taken).0)) }
+        ensures is { IfOk result
+            (λ p. p ≡ In
+            (mover_at (move_shape N bound receivers new_bound) me
+            (five_grids_drawn_with new_bound shares chance.old.seed chance.old.taken).0)) }
         ensures after { OnOk result (chance.new ≡ record {
           seed = chance.old.seed;
           taken = (five_grids_drawn_with new_bound shares chance.old.seed chance.old.taken).1;

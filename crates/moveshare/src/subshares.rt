@@ -12,7 +12,7 @@ ghost use Rattle.moveshare.specs.Seat.{IsMoving};
 use field61::FeList;
 use lists::OutOfMemory;
 use sharer::Sharer;
-use sizes::LANES;
+use sizes::{Instance, LANES};
 use std::alloc::Global;
 use subshare::syndrome_share;
 use talk::Setting;
@@ -31,11 +31,16 @@ pub(crate) fn subshares(alloc: Global, sharer: &Sharer, lane: u32) -> Result<FeL
     requires receiver { receives sharer.now.shape sharer.now.seat ≡ true }
     requires done { IsDone sharer.now.stage }
     requires lane { lane < 5 }
-    ensures { IfOk result (λ l. l ≡ map (subshare_in (kept_in sharer.now.stage) lane) (points_up_to sharer.now.shape.dealers)) }
+    ensures { IfOk result
+        (λ l. l ≡ map (subshare_in (kept_in sharer.now.stage) lane) (points_up_to sharer.now.shape.dealers)) }
 {
     let mut list = FeList::new(alloc);
     for index in 0..sharer.setting().dealers() {
-        list.push(sharer.share(index * LANES + lane))?;
+        let instance = Instance {
+            dealer: index + 1,
+            lane,
+        };
+        list.push(sharer.share(instance.number()))?;
     }
     Ok(list)
 }
@@ -46,7 +51,9 @@ fn syndrome_in(alloc: Global, sharer: &Sharer, lane: u32) -> Result<FeList, OutO
     requires receiver { receives sharer.now.shape sharer.now.seat ≡ true }
     requires done { IsDone sharer.now.stage }
     requires lane { lane < 5 }
-    ensures { IfOk result (λ l. l ≡ syndrome_of sharer.now.shape.dealers sharer.now.shape.checks (subshare_in (kept_in sharer.now.stage) lane)) }
+    ensures { IfOk result
+        (λ l. l ≡ syndrome_of sharer.now.shape.dealers sharer.now.shape.checks
+        (subshare_in (kept_in sharer.now.stage) lane)) }
 {
     let shares = subshares(alloc, sharer, lane)?;
     let bound = old_bound(sharer.setting());

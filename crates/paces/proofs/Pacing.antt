@@ -4,7 +4,7 @@ use Rattle.std.specs.Int.{bit_at}
 use Rattle.std.proofs.lemmas.Bool.{cases_eq, cases_lt}
 use Rattle.std.proofs.lemmas.Nat.Bits.{bit_at-lt, bit_at-zero, bit_at-pow_other, bit_at_or, bit_at_and, bit_at_ones, bit_at_ones_above, bit_at_above, same_from_bits}
 use Rattle.std.proofs.lemmas.Nat.{and_mask, mod_below, pow_pos}
-use Rattle.shelf.specs.Causes.{Rose}
+use Rattle.counters.specs.Counts.{Rose}
 use Rattle.roundboard.specs.declared.view.Event.{Event}
 use Rattle.roundboard.specs.declared.page.Sheet.{Sheet}
 use Rattle.roundboard.specs.Rule.{IsPart}

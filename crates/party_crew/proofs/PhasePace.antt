@@ -7,7 +7,7 @@ use Rattle.std.proofs.lemmas.List.{get_or_past}
 use Rattle.talk.specs.declared.messages.Post.{Post}
 use Rattle.talk.specs.Shape.{Shape}
 use Rattle.talk.specs.Sync.{Ways, all_seats, AllAllowed}
-use Rattle.shelf.specs.Causes.{Rose}
+use Rattle.counters.specs.Counts.{Rose}
 use Rattle.roundboard.specs.declared.view.Event.{Event}
 use Rattle.roundboard.specs.declared.page.Sheet.{Sheet}
 use Rattle.roundboard.specs.declared.finish.ClosedBoard.{ClosedBoard}

@@ -8,7 +8,7 @@ use Rattle.roundboard.specs.declared.finish.ClosedBoard.{ClosedBoard}
 use Rattle.roundboard.specs.declared.finish.Reader.{Reader}
 use Rattle.roundboard.specs.Closed.{mask_at, cut_at, shows_at, post_at, rounds_closed}
 use Rattle.turns.specs.Turns.{tabulate}
-use Rattle.shelf.specs.Causes.{Rose}
+use Rattle.counters.specs.Counts.{Rose}
 use Rattle.roundboard.specs.Rule.{IsPart}
 
 -- the mask, or 0 where there is none

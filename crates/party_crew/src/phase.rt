@@ -1,6 +1,6 @@
 //! A phase with a thread for each seat.
 ghost use Rattle.std.specs.Prelude.{◌≡◌, ℕ, ◌+◌, ◌-◌, ◌^◌, ◌<◌, ◌≤◌, All, length, slice_get, Some, IfOk, Err, min};
-ghost use Rattle.shelf.specs.Causes.{Rose};
+ghost use Rattle.counters.specs.Counts.{Rose};
 ghost use Rattle.roundboard.specs.Closed.{IsReader};
 ghost use Rattle.roundboard.specs.Pens.{IsFresh as IsFreshPen, Seated as SeatedPens, rounds_of};
 ghost use mathlib.Core.List.{IsPrefix};

@@ -37,15 +37,15 @@ syndromes_heard play receiver =
 -- ---- the opening
 -- the k-th value of a post of syndromes, 0 past its end; none where something else was posted
 abbrev pub syndrome_in : ℕ → Post → Option Fp
-syndrome_in k (Syndromes list) = Some (get_or list k zeroₚ)
-syndrome_in k Quiet = None
-syndrome_in k (Complaints list) = None
-syndrome_in k (Reveals list) = None
-syndrome_in k (Votes list) = None
+syndrome_in place (Syndromes list) = Some (get_or list place zeroₚ)
+syndrome_in place Quiet = None
+syndrome_in place (Complaints list) = None
+syndrome_in place (Reveals list) = None
+syndrome_in place (Votes list) = None
 
 -- the k-th values of the receivers' posts, by receiver, where post gives what each receiver posted
 abbrev pub values_in : ℕ → Shape → (ℕ → Post) → List (Option Fp)
-values_in k shape post = map (λ receiver. syndrome_in k (post receiver)) (points_up_to shape.receivers)
+values_in place shape post = map (λ receiver. syndrome_in place (post receiver)) (points_up_to shape.receivers)
 
 -- those of a place of the syndrome in a lane
 abbrev pub posted_values : Shape → (ℕ → Post) → ℕ → ℕ → List (Option Fp)

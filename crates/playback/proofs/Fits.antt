@@ -10,6 +10,7 @@ use Rattle.talk.specs.Read.{post_ok, ring_ok}
 use Rattle.talk.specs.Hears.{PostsOk, RingsOk, Fits}
 use Rattle.sharing61.specs.Instance.{held, complaint, shown, vote}
 use Rattle.sharing61.specs.Rules.{at_point}
+use Rattle.sizes.specs.Instances.{instance_at}
 use Rattle.plays.specs.Play.{Play, instance_of}
 use Rattle.plays.specs.Said.{dealt_list, cross_list, vote_list, dealt_by, crossed_by, complaints_by, reveals_by, votes_by, unless_down}
 use Rattle.plays.specs.Heard.{post_by, ring_by, post_heard, ring_heard, play_heard}
@@ -40,7 +41,7 @@ reveals_fit : (p : Play) (round seat : ℕ) → (eqb round 4 && deals p.shape se
 unfolding reveals_by
 reveals_fit p round seat e =
     let both = and_parts (eqb round 4) (deals p.shape seat) e in
-    and_from (eqb round 4) _ both.0 (and_from (deals p.shape seat) _ both.1 (reveals_shape p.shape (λ l j. shown (instance_of p ((seat - 1) * 5 + l)) j)))
+    and_from (eqb round 4) _ both.0 (and_from (deals p.shape seat) _ both.1 (reveals_shape p.shape (λ l j. shown (instance_of p (instance_at seat l)) j)))
 
 votes_fit : (p : Play) (round seat j : ℕ) → (eqb round 5 && receives p.shape seat) ≡ true → post_ok p.shape round seat (votes_by p j) ≡ true
 unfolding votes_by
@@ -66,7 +67,7 @@ dealt_fits p round seat to j e =
     (and_from (deals p.shape seat) _ b.0
     (and_from (receives p.shape to) _ c.0
     (and_from (not (eqb seat to)) _ c.1
-    (eq-eqb (length (dealt_list p.shape.degree (λ l. held (instance_of p ((seat - 1) * 5 + l)) j))) (10 * (p.shape.degree + 1)) (length-dealt p.shape.degree (λ l. held (instance_of p ((seat - 1) * 5 + l)) j))))))
+    (eq-eqb (length (dealt_list p.shape.degree (λ l. held (instance_of p (instance_at seat l)) j))) (10 * (p.shape.degree + 1)) (length-dealt p.shape.degree (λ l. held (instance_of p (instance_at seat l)) j))))))
 
 crossed_fits : (p : Play) (round seat to k j : ℕ) → (eqb round 2 && (receives p.shape seat && (receives p.shape to && not (eqb seat to)))) ≡ true → ring_ok p.shape round seat to (crossed_by p k j) ≡ true
 unfolding crossed_by

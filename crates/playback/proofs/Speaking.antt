@@ -5,7 +5,8 @@ use Rattle.std.proofs.lemmas.List.FromFn.{get_or-map-range_with_len}
 use Rattle.algebra61.specs.Field.{Fp}
 use Rattle.checks61.proofs.Errors.{check_same, syndrome_same}
 use Rattle.sharing61.specs.Count.{anyone}
-use Rattle.sharing61.specs.Rules.{Pair, Two, pair_on, at_point, reveal_of, off_grid, shown_if}
+use Rattle.sharing61.specs.Rules.{Pair, pair_on, at_point, reveal_of, off_grid, shown_if}
+use Rattle.sharing61.specs.declared.Crossing.{Crossing}
 use Rattle.sharing61.specs.Instance.{held, complaint, shown, vote}
 use Rattle.sharing61.specs.Agreement.{Deals}
 use Rattle.sharing61.proofs.Count.{anyone_same}
@@ -18,7 +19,7 @@ use Rattle.talk.specs.declared.messages.Ring.TheVariants.{Nothing, Dealt, Cross}
 use Rattle.talk.specs.declared.messages.Say.TheVariants.{Speak}
 use Rattle.talk.specs.Shape.{Shape, Lawful, instances, seats, within, deals, receives}
 use Rattle.plays.specs.Play.{Play, instance_of, seat_of}
-use Rattle.plays.specs.Said.{points_up_to, pair_list, two_list, reveal_item, dealt_list, cross_list, complaint_list, reveal_list, vote_list, dealt_by, crossed_by, complaints_by, reveals_by, votes_by, unless_down, complaints_heard}
+use Rattle.plays.specs.Said.{points_up_to, pair_list, crossing_values, reveal_item, dealt_list, cross_list, complaint_list, reveal_list, vote_list, dealt_by, crossed_by, complaints_by, reveals_by, votes_by, unless_down, complaints_heard}
 use Rattle.plays.specs.Seat.{post_at, pair_at, reveals}
 use Rattle.plays.specs.Law.{HonestIn}
 use Rattle.plays.specs.Heard.{ring_by, post_heard, ring_heard, play_heard}
@@ -48,15 +49,15 @@ votes_are : (p : Play) (j : ℕ) → Votes (vote_list (instances p.shape) (λ i.
 unfolding votes_by
 votes_are p j = refl
 
-dealt_are : (p : Play) (k j : ℕ) (pair : ℕ → Pair) → ((l : ℕ) → l < 5 → pair l ≡ held (instance_of p ((k - 1) * 5 + l)) j) → Dealt (dealt_list p.shape.degree pair) ≡ dealt_by p k j
+dealt_are : (p : Play) (k j : ℕ) (pair : ℕ → Pair) → ((l : ℕ) → l < 5 → pair l ≡ held (instance_of p (instance_at k l)) j) → Dealt (dealt_list p.shape.degree pair) ≡ dealt_by p k j
 unfolding dealt_by
 dealt_are p k j pair h = ap (λ xs. Dealt xs) (flat_same _ _ 5 0 (λ l a b. ap (pair_list p.shape.degree) (h l (omega (arith, b)))))
 
 crossed_are : (p : Play) (k j : ℕ) → Cross (cross_list (instances p.shape) (λ i. at_point (pair_at (pairs_of p k) i) j)) ≡ crossed_by p k j
 unfolding crossed_by
-crossed_are p k j = ap (λ xs. Cross xs) (flat_same _ _ (instances p.shape) 0 (λ i a b. ap (λ q. two_list (at_point q j)) (pair_at-pairs_of p k i (omega (arith, b)))))
+crossed_are p k j = ap (λ xs. Cross xs) (flat_same _ _ (instances p.shape) 0 (λ i a b. ap (λ q. crossing_values (at_point q j)) (pair_at-pairs_of p k i (omega (arith, b)))))
 
-reveals_are : (p : Play) (k : ℕ) (pair : ℕ → ℕ → Option Pair) → ((l j : ℕ) → l < 5 → 1 ≤ j → j ≤ p.shape.receivers → pair l j ≡ shown (instance_of p ((k - 1) * 5 + l)) j) →
+reveals_are : (p : Play) (k : ℕ) (pair : ℕ → ℕ → Option Pair) → ((l j : ℕ) → l < 5 → 1 ≤ j → j ≤ p.shape.receivers → pair l j ≡ shown (instance_of p (instance_at k l)) j) →
     Reveals (reveal_list p.shape.degree p.shape.receivers pair) ≡ reveals_by p k
 unfolding reveals_by
 reveals_are p k pair h =
@@ -69,7 +70,7 @@ syndromes_are p j subshares h =
     ap (λ xs. Syndromes xs)
     (flat_same _ _ 5 0 (λ l a b. syndrome_same p.shape.dealers p.shape.checks (subshares l) (λ i. subshare p l i j) (λ m lt. check_same p.shape.dealers m (subshares l) (λ i. subshare p l i j) (λ i x y. h l i (omega (arith, b)) x y))))
 
-reveal_of_same : (n : ℕ) (f g : List (List Fp)) (c o : ℕ → Option Two) (j : ℕ) → f ≡ g → ((k : ℕ) → 1 ≤ k → k ≤ n → c k ≡ o k) → reveal_of n f c j ≡ reveal_of n g o j
+reveal_of_same : (n : ℕ) (f g : List (List Fp)) (c o : ℕ → Option Crossing) (j : ℕ) → f ≡ g → ((k : ℕ) → 1 ≤ k → k ≤ n → c k ≡ o k) → reveal_of n f c j ≡ reveal_of n g o j
 reveal_of_same n f g c o j e h =
     ap₂ (λ b q. shown_if b q) (ap (λ m. anyone n (λ k. off_grid m j k (c k))) e ∙ anyone_same n _ (λ k. off_grid g j k (o k)) (λ k a b. ap (off_grid g j k) (h k a b))) (ap (λ m. pair_on m j) e)
 
@@ -167,10 +168,10 @@ module _ (p : Play) (lw : Lawful p.shape) (al : (i : ℕ) → Deals p.shape.degr
       (λ up. cond-true (receives p.shape (seat_of p.shape j)) _ _ (within_from (p.shape.shift + 1) (seat_of p.shape j) (seats p.shape) (omega (arith, a)) (omega (arith, b))) ∙ ap (complaints_by p) (let e : receiver_at p.shape (seat_of p.shape j) ≡ j = omega arith in e))
 
   reveals_is : (seat l j : ℕ) → deals p.shape seat ≡ true → p.down seat ≡ false → l < 5 → 1 ≤ j → j ≤ p.shape.receivers →
-      reveals p.shape (dealt_by_seat p seat) (map (post_heard p 3) (points_up_to (seats p.shape))) seat l j ≡ shown (instance_of p ((seat - 1) * 5 + l)) j
+      reveals p.shape (dealt_by_seat p seat) (map (post_heard p 3) (points_up_to (seats p.shape))) seat l j ≡ shown (instance_of p (instance_at seat l)) j
   reveals_is seat l j e up l5 j1 jn =
       let d = within_parts 1 seat p.shape.dealers e in
-      let i : ℕ = (seat - 1) * 5 + l in
+      let i : ℕ = instance_at seat l in
       let there : dealer_of i ≡ seat = omega (arith, d.0, l5) in
       reveal_of_same p.shape.receivers (get_or (dealt_by_seat p seat) l []) (p.grid i) _ (complaint (instance_of p i) j) j (own_at seat l e l5)
       (λ m m1 mn. heard_complaint_is p (map (post_heard p 3) (points_up_to (seats p.shape))) i j m (omega (arith, l5, d.0, d.1)) m1 mn (third_is j j1 jn))
@@ -224,7 +225,7 @@ module _ (p : Play) (lw : Lawful p.shape) (al : (i : ℕ) → Deals p.shape.degr
       let w = within_parts 1 seat p.shape.dealers d in
       dealt_are p seat (receiver_at p.shape to) _
       (λ l l5.
-      let i : ℕ = (seat - 1) * 5 + l in
+      let i : ℕ = instance_at seat l in
       let there : dealer_of i ≡ seat = omega (arith, w.0, l5) in
       ap (λ g. pair_on g (receiver_at p.shape to)) (own_at seat l d l5) ∙ sym (held_mine p i (receiver_at p.shape to) (ap p.down there ∙ up))))
       refl

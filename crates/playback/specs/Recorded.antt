@@ -45,7 +45,7 @@ said_ring said round seat to = nothing_or (seek (is_item round seat to) (λ item
 -- ---- the grids
 -- how many of the dealers 1 to n aren't down
 abbrev pub up_to : ℕ → ℕ → ℕ
-up_to down n = how_many n (λ dealer. not (has down dealer))
+up_to down count = how_many count (λ dealer. not (has down dealer))
 
 -- the instance has a grid in the record
 abbrev pub is_dealt : Shape → ℕ → ℕ → Bool

@@ -28,8 +28,8 @@ shares_by play share = map (shares_at play share) (points_up_to play.shape.recei
 -- ---- a refresh
 -- these are the shares before it, where share goes by lane and member: each of the members 1 to n that isn't down has its own
 abbrev pub HasBefore : ℕ → (ℕ → Bool) → (ℕ → ℕ → Fp) → List (Option (List Fp)) → Type 0
-HasBefore n down share shares =
-    (member : ℕ) → 1 ≤ member → member ≤ n → down member ≡ false →
+HasBefore count down share shares =
+    (member : ℕ) → 1 ≤ member → member ≤ count → down member ≡ false →
     get_or shares (member - 1) None ≡ Some (map (λ lane. share lane member) (places 5))
 
 -- each old share with the point times the created one added

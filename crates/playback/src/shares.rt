@@ -126,7 +126,8 @@ pub fn moved_shares(
     requires kept { IsKept phase.now }
     requires moving { (bound : ℕ) × IsMove bound (play_of phase.now) }
     requires played { IsPlayed (play_of phase.now) played.now }
-    requires errors { (errors : List (List Fp)) × HaveErrors phase.now.setting (syndromes_heard (play_of phase.now)) errors }
+    requires errors { (errors : List (List Fp)) × HaveErrors phase.now.setting
+        (syndromes_heard (play_of phase.now)) errors }
     ensures { IfOk result (λ v. AreMoved (play_of phase.now) v.items) }
 {
     match lane_errors(alloc, &played.last, &phase.setting) {
@@ -153,7 +154,9 @@ fn moved_with(
     requires moving { (bound : ℕ) × IsMove bound (play_of phase.now) }
     requires played { IsPlayed (play_of phase.now) played.now }
     requires errors { HaveErrors phase.now.setting (syndromes_heard (play_of phase.now)) errors.now }
-    ensures { IfOk result (λ v. v.items ≡ shares_by (play_of phase.now) (λ lane j. moved_share (play_of phase.now) lane (get_or errors.now lane []) j)) }
+    ensures { IfOk result
+        (λ v. v.items ≡ shares_by (play_of phase.now)
+        (λ lane j. moved_share (play_of phase.now) lane (get_or errors.now lane []) j)) }
 {
     let mut list = Vec::new(alloc);
     for receiver in 1..phase.setting.receivers() + 1 {
@@ -175,7 +178,9 @@ fn moved_at(
     requires played { IsPlayed (play_of phase.now) played.now }
     requires errors { HaveErrors phase.now.setting (syndromes_heard (play_of phase.now)) errors.now }
     requires receiver { (1 ≤ receiver) × (receiver ≤ phase.now.setting.receivers) }
-    ensures { IfOk result (λ o. o ≡ shares_at (play_of phase.now) (λ lane j. moved_share (play_of phase.now) lane (get_or errors.now lane []) j) receiver) }
+    ensures { IfOk result
+        (λ o. o ≡ shares_at (play_of phase.now)
+        (λ lane j. moved_share (play_of phase.now) lane (get_or errors.now lane []) j) receiver) }
 {
     let state = end_of(phase, played, phase.setting.seat_of(receiver));
     match state {

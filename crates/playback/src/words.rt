@@ -172,7 +172,9 @@ pub(crate) fn push_got(
     round: u32,
 ) -> Result<(), OutOfMemory>
     requires words { words.now ≡ words_read (play_of phase.now) round }
-    ensures { OnOk result (list.new ≡ list.old ++ flat_map (rings_got (play_of phase.now) round) (points_up_to (seats phase.now.setting))) }
+    ensures { OnOk result
+        (list.new ≡ list.old ++ flat_map (rings_got (play_of phase.now) round)
+        (points_up_to (seats phase.now.setting))) }
 {
     for to in 1..phase.setting.seats() + 1 {
         push_if_down(alloc, list, phase, words, round, to)?;

@@ -4,7 +4,8 @@ use Rattle.std.specs.List.{flat_map, range_with_len}
 use Rattle.std.proofs.lemmas.Bool.{cases_eq, eq-eqb, ne_eqb, eqb-true, and_parts, cond-true}
 use Rattle.std.proofs.lemmas.List.FromFn.{get_or-map-range_with_len}
 use Rattle.algebra61.specs.Field.{Fp, zeroₚ}
-use Rattle.sharing61.specs.Rules.{Pair, Two, at_point, votes_yes, fits, settled}
+use Rattle.sharing61.specs.Rules.{Pair, at_point, votes_yes, fits, settled}
+use Rattle.sharing61.specs.declared.Crossing.{Crossing}
 use Rattle.sharing61.specs.Instance.{held, complaint, shown, vote}
 use Rattle.sharing61.proofs.Count.{everyone_same}
 use Rattle.sharing61.proofs.Votes.{vote_is}
@@ -13,7 +14,7 @@ use Rattle.talk.specs.Shape.{instances}
 use Rattle.talk.specs.Basics.{first_of}
 use Rattle.plays.specs.Read.{seek, complaint_at, crossed_in, listed_in, voted_in}
 use Rattle.plays.specs.Play.{Play, instance_of, seat_of}
-use Rattle.plays.specs.Said.{places, points_up_to, two_list, complaint_item, complaint_list, crossed_by, complaints_by, votes_by, unless_down, complaints_heard}
+use Rattle.plays.specs.Said.{places, points_up_to, crossing_values, complaint_item, complaint_list, crossed_by, complaints_by, votes_by, unless_down, complaints_heard}
 use Rattle.plays.specs.Seat.{post_at, pair_at, heard_complaint, heard_shown, says_yes}
 
 -- ---- look-ups in lists that were made place by place
@@ -65,49 +66,49 @@ two_level t v f give i k m n h im k1 kn =
     m 0 (omega arith) (omega arith)
 
 -- ---- crossing pairs
-cross_at_u : (f : ℕ → Two) (m a i : ℕ) → i < m → get_or (flat_map (λ k. two_list (f k)) (range_with_len a m)) (2 * i) zeroₚ ≡ (f (a + i)).u
-cross_at_u f zero a i lt = absurd (omega (arith, lt))
-cross_at_u f (suc m) a zero lt = ap (λ k. (f k).u) (omega arith)
-cross_at_u f (suc m) a (suc i) lt =
+cross_at_row : (f : ℕ → Crossing) (m a i : ℕ) → i < m → get_or (flat_map (λ k. crossing_values (f k)) (range_with_len a m)) (2 * i) zeroₚ ≡ (f (a + i)).row
+cross_at_row f zero a i lt = absurd (omega (arith, lt))
+cross_at_row f (suc m) a zero lt = ap (λ k. (f k).row) (omega arith)
+cross_at_row f (suc m) a (suc i) lt =
     let e : 2 * suc i ≡ suc (suc (2 * i)) = omega arith in
     let k : (a + 1) + i ≡ a + suc i = omega arith in
-    rw e (cross_at_u f m (a + 1) i (omega (arith, lt)) ∙ ap (λ j. (f j).u) k)
+    rw e (cross_at_row f m (a + 1) i (omega (arith, lt)) ∙ ap (λ j. (f j).row) k)
 
-cross_at_v : (f : ℕ → Two) (m a i : ℕ) → i < m → get_or (flat_map (λ k. two_list (f k)) (range_with_len a m)) (2 * i + 1) zeroₚ ≡ (f (a + i)).v
-cross_at_v f zero a i lt = absurd (omega (arith, lt))
-cross_at_v f (suc m) a zero lt = ap (λ k. (f k).v) (omega arith)
-cross_at_v f (suc m) a (suc i) lt =
+cross_at_column : (f : ℕ → Crossing) (m a i : ℕ) → i < m → get_or (flat_map (λ k. crossing_values (f k)) (range_with_len a m)) (2 * i + 1) zeroₚ ≡ (f (a + i)).column
+cross_at_column f zero a i lt = absurd (omega (arith, lt))
+cross_at_column f (suc m) a zero lt = ap (λ k. (f k).column) (omega arith)
+cross_at_column f (suc m) a (suc i) lt =
     let e : 2 * suc i + 1 ≡ suc (suc (2 * i + 1)) = omega arith in
     let k : (a + 1) + i ≡ a + suc i = omega arith in
-    rw e (cross_at_v f m (a + 1) i (omega (arith, lt)) ∙ ap (λ j. (f j).v) k)
+    rw e (cross_at_column f m (a + 1) i (omega (arith, lt)) ∙ ap (λ j. (f j).column) k)
 
 pub crossed_own : (p : Play) (k j i : ℕ) → i < instances p.shape → crossed_in i (crossed_by p k j) ≡ Some (at_point (held (instance_of p i) k) j)
 unfolding crossed_by
 crossed_own p k j i lt =
-    let f : ℕ → Two = λ i. at_point (held (instance_of p i) k) j in
+    let f : ℕ → Crossing = λ i. at_point (held (instance_of p i) k) j in
     let z : 0 + i ≡ i = omega arith in
-    ap₂ (λ (a b : Fp). let t : Two = record { u = a; v = b } in Some t)
-    (cross_at_u f (instances p.shape) 0 i lt ∙ ap (λ n. (f n).u) z)
-    (cross_at_v f (instances p.shape) 0 i lt ∙ ap (λ n. (f n).v) z)
+    ap₂ (λ (a b : Fp). let t : Crossing = record { row = a; column = b } in Some t)
+    (cross_at_row f (instances p.shape) 0 i lt ∙ ap (λ n. (f n).row) z)
+    (cross_at_column f (instances p.shape) 0 i lt ∙ ap (λ n. (f n).column) z)
 
 -- ---- complaints
-item_some : (i k j l : ℕ) (o : ℕ → ℕ → Option Two) (t : Two) (b : Bool) → o j l ≡ Some t → (eqb j i && eqb l k) ≡ b → first_of b t None ≡ cond b (o i k) None
+item_some : (i k j l : ℕ) (o : ℕ → ℕ → Option Crossing) (t : Crossing) (b : Bool) → o j l ≡ Some t → (eqb j i && eqb l k) ≡ b → first_of b t None ≡ cond b (o i k) None
 item_some i k j l o t true e h =
     let both = and_parts (eqb j i) (eqb l k) h in
     sym e ∙ ap₂ o (eqb-true j i both.0) (eqb-true l k both.1)
 item_some i k j l o t false e h = refl
 
-item_none : (i k j l : ℕ) (o : ℕ → ℕ → Option Two) (b : Bool) → o j l ≡ None → (eqb j i && eqb l k) ≡ b → None ≡ cond b (o i k) None
+item_none : (i k j l : ℕ) (o : ℕ → ℕ → Option Crossing) (b : Bool) → o j l ≡ None → (eqb j i && eqb l k) ≡ b → None ≡ cond b (o i k) None
 item_none i k j l o true e h =
     let both = and_parts (eqb j i) (eqb l k) h in
     sym e ∙ ap₂ o (eqb-true j i both.0) (eqb-true l k both.1)
 item_none i k j l o false e h = refl
 
-complaint_item_at : (i k j l : ℕ) (o : ℕ → ℕ → Option Two) (q : Option Two) → o j l ≡ q → complaint_at i k (complaint_item j l q) ≡ cond (eqb j i && eqb l k) (o i k) None
+complaint_item_at : (i k j l : ℕ) (o : ℕ → ℕ → Option Crossing) (q : Option Crossing) → o j l ≡ q → complaint_at i k (complaint_item j l q) ≡ cond (eqb j i && eqb l k) (o i k) None
 complaint_item_at i k j l o None e = item_none i k j l o (eqb j i && eqb l k) e refl
 complaint_item_at i k j l o (Some t) e = item_some i k j l o t (eqb j i && eqb l k) e refl
 
-pub complaint_listed : (m n : ℕ) (o : ℕ → ℕ → Option Two) (i k : ℕ) → i < m → 1 ≤ k → k ≤ n → complaint_at i k (complaint_list m n o) ≡ o i k
+pub complaint_listed : (m n : ℕ) (o : ℕ → ℕ → Option Crossing) (i k : ℕ) → i < m → 1 ≤ k → k ≤ n → complaint_at i k (complaint_list m n o) ≡ o i k
 complaint_listed m n o i k im k1 kn =
     two_level _ _ (λ j l. complaint_item j l (o j l)) (o i k) i k m n (λ j l. complaint_item_at i k j l o (o j l) refl) im k1 kn
 
@@ -129,7 +130,7 @@ heard_complaint_is p third i j k lt k1 kn e =
     ap (listed_in i k) e ∙ heard_cases p j i k (p.down (seat_of p.shape j)) refl lt k1 kn
 
 -- ---- votes
-pub votes_same : (n : ℕ) (c d : ℕ → ℕ → Option Two) (s t : ℕ → Option Pair) (j : ℕ) (mine : Pair) → 1 ≤ j → j ≤ n →
+pub votes_same : (n : ℕ) (c d : ℕ → ℕ → Option Crossing) (s t : ℕ → Option Pair) (j : ℕ) (mine : Pair) → 1 ≤ j → j ≤ n →
     ((k l : ℕ) → 1 ≤ k → k ≤ n → 1 ≤ l → l ≤ n → c k l ≡ d k l) → ((k : ℕ) → 1 ≤ k → k ≤ n → s k ≡ t k) → votes_yes n c s j mine ≡ votes_yes n d t j mine
 votes_same n c d s t j mine j1 jn hc hs =
     ap₂ (λ a b. a && b) (ap is_none (hs j j1 jn))

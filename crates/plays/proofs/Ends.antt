@@ -10,7 +10,7 @@ use Rattle.sharing61.proofs.Agree.{short_held, short_shown}
 use Rattle.talk.specs.declared.messages.Post.{Post}
 use Rattle.talk.specs.declared.messages.Ring.{Ring}
 use Rattle.talk.specs.Shape.{instances}
-use Rattle.sizes.specs.Instances.{dealer_of, lane_of}
+use Rattle.sizes.specs.Instances.{dealer_of, lane_of, instance_at}
 use Rattle.plays.specs.Read.{dealt_in, shown_in, voted_in}
 use Rattle.plays.specs.Play.{Play, instance_of, dealer_if, seat_of}
 use Rattle.plays.specs.Said.{dealt_by, dealt_heard, reveals_by, reveals_heard, votes_by, votes_heard, unless_down}
@@ -18,7 +18,7 @@ use Rattle.plays.specs.Seat.{post_at, ring_at, pair_at, holds, heard_shown, hear
 use Rattle.plays.proofs.Bridge.{voted_own}
 use Rattle.plays.proofs.Dealt.{dealt_read, reveal_read}
 
-pub place_is : (i : ℕ) → (dealer_of i - 1) * 5 + lane_of i ≡ i
+pub place_is : (i : ℕ) → instance_at (dealer_of i) (lane_of i) ≡ i
 place_is i = omega arith
 
 pub lane_below : (i : ℕ) → lane_of i < 5
@@ -31,7 +31,7 @@ AllDeal p = (i : ℕ) → Deals p.shape.degree (instance_of p i).dealer
 dealt_own : (p : Play) (i j : ℕ) → p.shape.degree + 1 < Prime → AllDeal p → dealt_in p.shape.degree (lane_of i) (dealt_by p (dealer_of i) j) ≡ held (instance_of p i) j
 unfolding dealt_by
 dealt_own p i j small al =
-    dealt_read p.shape.degree (λ l. held (instance_of p ((dealer_of i - 1) * 5 + l)) j) small (λ l. short_held p.shape.degree (instance_of p ((dealer_of i - 1) * 5 + l)) j (al ((dealer_of i - 1) * 5 + l))) (lane_of i) (lane_below i)
+    dealt_read p.shape.degree (λ l. held (instance_of p (instance_at (dealer_of i) l)) j) small (λ l. short_held p.shape.degree (instance_of p (instance_at (dealer_of i) l)) j (al (instance_at (dealer_of i) l))) (lane_of i) (lane_below i)
     ∙ ap (λ k. held (instance_of p k) j) (place_is i)
 
 dealt_cases : (p : Play) (i j : ℕ) (b : Bool) → p.down (dealer_of i) ≡ b → p.shape.degree + 1 < Prime → AllDeal p →
@@ -60,8 +60,8 @@ holds_is p own rings i j small al mine heard = holds_cases p own rings i j (eqb 
 shown_own_read : (p : Play) (i j : ℕ) → p.shape.degree + 1 < Prime → AllDeal p → 1 ≤ j → j ≤ p.shape.receivers → shown_in (lane_of i) j (reveals_by p (dealer_of i)) ≡ shown (instance_of p i) j
 unfolding reveals_by
 shown_own_read p i j small al j1 jn =
-    reveal_read p.shape.degree p.shape.receivers (λ l k. shown (instance_of p ((dealer_of i - 1) * 5 + l)) k) small
-    (λ l k q e. short_shown p.shape.degree (instance_of p ((dealer_of i - 1) * 5 + l)) k q (al ((dealer_of i - 1) * 5 + l)) e) (lane_of i) j (lane_below i) j1 jn
+    reveal_read p.shape.degree p.shape.receivers (λ l k. shown (instance_of p (instance_at (dealer_of i) l)) k) small
+    (λ l k q e. short_shown p.shape.degree (instance_of p (instance_at (dealer_of i) l)) k q (al (instance_at (dealer_of i) l)) e) (lane_of i) j (lane_below i) j1 jn
     ∙ ap (λ k. shown (instance_of p k) j) (place_is i)
 
 shown_cases : (p : Play) (i j : ℕ) (b : Bool) → p.down (dealer_of i) ≡ b → p.shape.degree + 1 < Prime → AllDeal p → 1 ≤ j → j ≤ p.shape.receivers →

@@ -10,6 +10,7 @@ use Rattle.sharing61.specs.Instance.{Instance, held, shown, accepted, kept, shar
 use Rattle.sharing61.specs.Agreement.{Proper, HonestReceiver}
 use Rattle.sharing61.proofs.Values.{eval-poly}
 use Rattle.sharing61.proofs.Agree.{agreement}
+use Rattle.sizes.specs.Instances.{instance_at}
 use Rattle.plays.specs.Play.{Play, instance_of, lane_sum}
 use Rattle.plays.specs.Law.{ProperPlay, HonestIn, CreatedLine}
 
@@ -38,10 +39,10 @@ sums : (p : Play) (l : ℕ) → ProperPlay p → l < 5 → (n : ℕ) → n ≤ p
 sums p l proper l5 zero le = ([], omega arith, λ j s. refl)
 sums p l proper l5 (suc n) le =
     let before = sums p l proper l5 n (omega (arith, le)) in
-    let here = line_by p.shape.degree (instance_of p (n * 5 + l)) (accepted (instance_of p (n * 5 + l))) refl (proper (n * 5 + l) (omega (arith, le, l5))) in (
+    let here = line_by p.shape.degree (instance_of p (instance_at (suc n) l)) (accepted (instance_of p (instance_at (suc n) l))) refl (proper (instance_at (suc n) l) (omega (arith, le, l5))) in (
       add_list before.0 here.0,
       omega (arith, length-add before.0 here.0, before.1, here.1),
-      λ j s. ap₂ (λ a b. a +ₚ b) (before.2 j s) (here.2 j (honest_at p (n * 5 + l) j s)) ∙ sym (eval-add before.0 here.0 (fe j)),
+      λ j s. ap₂ (λ a b. a +ₚ b) (before.2 j s) (here.2 j (honest_at p (instance_at (suc n) l) j s)) ∙ sym (eval-add before.0 here.0 (fe j)),
     )
 
 pub created_line : CreatedLine

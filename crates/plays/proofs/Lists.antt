@@ -3,17 +3,17 @@ use Rattle.std.proofs.Common.{◌≡◌, ℕ, ◌+◌, ◌-◌, ◌≤◌, List,
 use Rattle.std.specs.List.{flat_map, range_with_len}
 use Rattle.std.proofs.lemmas.List.Concat.{flat_map-append}
 use Rattle.algebra61.specs.Field.{Fp}
-use Rattle.sharing61.specs.Rules.{Two}
+use Rattle.sharing61.specs.declared.Crossing.{Crossing}
 pub use Rattle.talk.proofs.Places.{places_step}
 use Rattle.talk.proofs.Places.{range_more, flat_more}
 use Rattle.std.proofs.lemmas.List.{append-nil}
-use Rattle.plays.specs.Said.{points_up_to, cross_list, two_list}
+use Rattle.plays.specs.Said.{points_up_to, cross_list, crossing_values}
 
-pub cross_more : (n : ℕ) (f : ℕ → Two) (xs : List Fp) → xs ≡ cross_list n f → (xs ++ (f n).u ∷ []) ++ (f n).v ∷ [] ≡ cross_list (n + 1) f
+pub cross_more : (n : ℕ) (f : ℕ → Crossing) (xs : List Fp) → xs ≡ cross_list n f → (xs ++ (f n).row ∷ []) ++ (f n).column ∷ [] ≡ cross_list (n + 1) f
 cross_more n f xs e =
-    append_assoc xs ((f n).u ∷ []) ((f n).v ∷ []) ∙ ap (λ ys. ys ++ two_list (f n)) e ∙ sym (flat_more (λ i. two_list (f i)) n)
+    append_assoc xs ((f n).row ∷ []) ((f n).column ∷ []) ∙ ap (λ ys. ys ++ crossing_values (f n)) e ∙ sym (flat_more (λ i. crossing_values (f i)) n)
 
-pub cross_step : (n : ℕ) (f : ℕ → Two) (xs ys zs : List Fp) (u v : Fp) → xs ≡ cross_list n f → ys ≡ xs ++ u ∷ [] → zs ≡ ys ++ v ∷ [] → u ≡ (f n).u → v ≡ (f n).v → zs ≡ cross_list (n + 1) f
+pub cross_step : (n : ℕ) (f : ℕ → Crossing) (xs ys zs : List Fp) (u v : Fp) → xs ≡ cross_list n f → ys ≡ xs ++ u ∷ [] → zs ≡ ys ++ v ∷ [] → u ≡ (f n).row → v ≡ (f n).column → zs ≡ cross_list (n + 1) f
 cross_step n f xs ys zs u v e ey ez eu ev =
     ez ∙ ap₂ (λ (a : List Fp) (b : Fp). a ++ b ∷ []) (ey ∙ ap (λ (b : Fp). xs ++ b ∷ []) eu) ev ∙ cross_more n f xs e
 

@@ -3,7 +3,8 @@ use Rattle.std.proofs.Common.{◌≡◌, ℕ, zero, suc, ◌+◌, ◌-◌, ◌*�
 use Rattle.std.specs.List.{flat_map, range_with_len}
 use Rattle.std.proofs.lemmas.Bool.{cond-true, eqb-true, eq-eqb, ne_eqb, and_from}
 use Rattle.algebra61.specs.Field.{Fp, Prime}
-use Rattle.sharing61.specs.Rules.{Pair, Two, pair_on, at_point, reveal_of, off_grid, shown_if}
+use Rattle.sharing61.specs.Rules.{Pair, pair_on, at_point, reveal_of, off_grid, shown_if}
+use Rattle.sharing61.specs.declared.Crossing.{Crossing}
 use Rattle.sharing61.specs.Count.{anyone}
 use Rattle.sharing61.proofs.Count.{anyone_same}
 use Rattle.sharing61.proofs.Own.{shown_own}
@@ -17,12 +18,12 @@ use Rattle.talk.specs.declared.messages.Ring.TheVariants.{Nothing, Dealt, Cross}
 use Rattle.talk.specs.declared.messages.Say.{Say}
 use Rattle.talk.specs.declared.messages.Say.TheVariants.{Pass}
 use Rattle.talk.specs.Shape.{Shape, Lawful, instances, seats, within, deals, receives}
-use Rattle.sizes.specs.Instances.{dealer_of, lane_of}
+use Rattle.sizes.specs.Instances.{dealer_of, lane_of, instance_at}
 use Rattle.talk.specs.Read.{post_ok, ring_ok, as_read, ring_as_read}
 use Rattle.talk.specs.Sync.{posts_heard, rings_heard, has, post_in, ring_in}
 use Rattle.talk.proofs.Entries.{post_entry, ring_entry}
 use Rattle.plays.specs.Play.{Play, instance_of, dealer_if, seat_of}
-use Rattle.plays.specs.Said.{pair_list, two_list, reveal_item, points_up_to, dealt_list, cross_list, complaint_list, reveal_list, vote_list, dealt_by, crossed_by, complaints_by, reveals_by, votes_by, unless_down}
+use Rattle.plays.specs.Said.{pair_list, crossing_values, reveal_item, points_up_to, dealt_list, cross_list, complaint_list, reveal_list, vote_list, dealt_by, crossed_by, complaints_by, reveals_by, votes_by, unless_down}
 use Rattle.plays.specs.Seat.{post_at, ring_at, pair_at, holds, complains, heard_shown, reveals, says_yes, heard_accepted, keeps}
 use Rattle.plays.specs.Law.{HonestIn}
 use Rattle.plays.specs.Stage.{Stage, AtReady, AtDealt, AtCrossed, AtComplained, AtRevealed, AtDone, received, kept_of_round, stage_after, stage_post, stage_ring, receiver_at}
@@ -156,13 +157,13 @@ run_makes_play t down own h = record {
 place_below : (i m : ℕ) → i < m * 5 → dealer_of i ≤ m
 place_below i m lt = omega (arith, lt)
 
-dealer_there : (k l : ℕ) → 1 ≤ k → l < 5 → dealer_of ((k - 1) * 5 + l) ≡ k
+dealer_there : (k l : ℕ) → 1 ≤ k → l < 5 → dealer_of (instance_at k l) ≡ k
 dealer_there k l k1 l5 = omega (arith, k1, l5)
 
-lane_there : (k l : ℕ) → l < 5 → lane_of ((k - 1) * 5 + l) ≡ l
+lane_there : (k l : ℕ) → l < 5 → lane_of (instance_at k l) ≡ l
 lane_there k l l5 = omega (arith, l5)
 
-grid_there : (own : ℕ → List (List (List Fp))) (k l : ℕ) → 1 ≤ k → l < 5 → get_or (own (dealer_of ((k - 1) * 5 + l))) (lane_of ((k - 1) * 5 + l)) [] ≡ get_or (own k) l []
+grid_there : (own : ℕ → List (List (List Fp))) (k l : ℕ) → 1 ≤ k → l < 5 → get_or (own (dealer_of (instance_at k l))) (lane_of (instance_at k l)) [] ≡ get_or (own k) l []
 grid_there own k l k1 l5 = ap₂ (λ n m. get_or (own n) m []) (dealer_there k l k1 l5) (lane_there k l l5)
 
 dealt_same : (d : ℕ) (f g : ℕ → Pair) → ((l : ℕ) → l < 5 → f l ≡ g l) → dealt_list d f ≡ dealt_list d g
@@ -173,10 +174,10 @@ dealt_own : (t : Transcript) (down : ℕ → Bool) (own : ℕ → List (List (Li
 unfolding dealt_by
 dealt_own t down own k j k1 up =
     ap (λ xs. Dealt xs)
-    (dealt_same t.shape.degree _ (λ l. held (instance_of (play_of t down own) ((k - 1) * 5 + l)) j)
+    (dealt_same t.shape.degree _ (λ l. held (instance_of (play_of t down own) (instance_at k l)) j)
     (λ l l5.
     ap₂ pair_on (sym (grid_there own k l k1 l5)) (receiver_is t.shape j)
-    ∙ sym (held_mine (play_of t down own) ((k - 1) * 5 + l) j (ap down (dealer_there k l k1 l5) ∙ up))))
+    ∙ sym (held_mine (play_of t down own) (instance_at k l) j (ap down (dealer_there k l k1 l5) ∙ up))))
 
 dealt_ok : (s : Shape) (k j : ℕ) (pair : ℕ → Pair) → 1 ≤ k → k ≤ s.dealers → 1 ≤ j → j ≤ s.receivers → eqb k (seat_of s j) ≡ false → ring_ok s 1 k (seat_of s j) (Dealt (dealt_list s.degree pair)) ≡ true
 dealt_ok s k j pair k1 kn j1 jn ne =
@@ -199,7 +200,7 @@ dealt_said t down own h k j k1 kn j1 jn ne false e =
     ∙ cond-true (deals t.shape k && (receives t.shape (seat_of t.shape j) && not (eqb k (seat_of t.shape j)))) _ _
     (three_parts _ _ _ (within_from 1 k t.shape.dealers k1 kn) (receives_from t.shape j j1 jn) ne)
     ∙ dealt_own t down own k j k1 e)
-    (dealt_ok t.shape k j (λ l. held (instance_of (play_of t down own) ((k - 1) * 5 + l)) j) k1 kn j1 jn ne)
+    (dealt_ok t.shape k j (λ l. held (instance_of (play_of t down own) (instance_at k l)) j) k1 kn j1 jn ne)
 
 pub stage_1 : (t : Transcript) (down : ℕ → Bool) (own : ℕ → List (List (List Fp))) → ByTheRules t down own → (j : ℕ) → HonestIn (play_of t down own) j →
     stage_in t (own (seat_of t.shape j)) (seat_of t.shape j) 1 ≡ AtDealt (pairs_of (play_of t down own) j)
@@ -219,8 +220,8 @@ stage_1 t down own h j s =
 true_not_false : (b : Bool) → b ≡ true → b ≡ false → ⊥
 true_not_false b e f = let g : true ≡ false = sym e ∙ f in cc
 
-cross_same : (m : ℕ) (f g : ℕ → Two) → ((i : ℕ) → i < m → f i ≡ g i) → cross_list m f ≡ cross_list m g
-cross_same m f g h = flat_same (λ i. two_list (f i)) (λ i. two_list (g i)) m 0 (λ i a b. ap two_list (h i (omega (arith, b))))
+cross_same : (m : ℕ) (f g : ℕ → Crossing) → ((i : ℕ) → i < m → f i ≡ g i) → cross_list m f ≡ cross_list m g
+cross_same m f g h = flat_same (λ i. crossing_values (f i)) (λ i. crossing_values (g i)) m 0 (λ i a b. ap crossing_values (h i (omega (arith, b))))
 
 cross_own : (t : Transcript) (down : ℕ → Bool) (own : ℕ → List (List (List Fp))) (k j : ℕ) →
     Cross (cross_list (instances t.shape) (λ i. at_point (pair_at (pairs_of (play_of t down own) k) i) (receiver_at t.shape (seat_of t.shape j)))) ≡ crossed_by (play_of t down own) k j
@@ -230,7 +231,7 @@ cross_own t down own k j =
     ap (λ xs. Cross xs)
     (cross_same (instances t.shape) _ (λ i. at_point (held (instance_of p i) k) j) (λ i lt. ap₂ at_point (pair_at-pairs_of p k i lt) (receiver_is t.shape j)))
 
-cross_ok : (s : Shape) (k j : ℕ) (two : ℕ → Two) → 1 ≤ k → k ≤ s.receivers → 1 ≤ j → j ≤ s.receivers → eqb (seat_of s k) (seat_of s j) ≡ false →
+cross_ok : (s : Shape) (k j : ℕ) (two : ℕ → Crossing) → 1 ≤ k → k ≤ s.receivers → 1 ≤ j → j ≤ s.receivers → eqb (seat_of s k) (seat_of s j) ≡ false →
     ring_ok s 2 (seat_of s k) (seat_of s j) (Cross (cross_list (instances s) two)) ≡ true
 cross_ok s k j two k1 kn j1 jn ne =
     and_from (receives s (seat_of s k)) _ (receives_from s k k1 kn)
@@ -309,7 +310,7 @@ reveal_list_same d n f g h =
     (λ l a b. flat_same (λ j. reveal_item d l j (f l j)) (λ j. reveal_item d l j (g l j)) n 1
     (λ j c e. ap (reveal_item d l j) (h l j (omega (arith, b)) c (omega (arith, e)))))
 
-reveal_of_same : (n : ℕ) (f g : List (List Fp)) (c o : ℕ → Option Two) (j : ℕ) → f ≡ g → ((k : ℕ) → 1 ≤ k → k ≤ n → c k ≡ o k) → reveal_of n f c j ≡ reveal_of n g o j
+reveal_of_same : (n : ℕ) (f g : List (List Fp)) (c o : ℕ → Option Crossing) (j : ℕ) → f ≡ g → ((k : ℕ) → 1 ≤ k → k ≤ n → c k ≡ o k) → reveal_of n f c j ≡ reveal_of n g o j
 reveal_of_same n f g c o j e h =
     ap₂ (λ b q. shown_if b q) (ap (λ m. anyone n (λ k. off_grid m j k (c k))) e ∙ anyone_same n _ (λ k. off_grid g j k (o k)) (λ k a b. ap (off_grid g j k) (h k a b))) (ap (λ m. pair_on m j) e)
 
@@ -318,10 +319,10 @@ unfolding instance_of
 receivers_of p i = refl
 
 reveals_is : (t : Transcript) (down : ℕ → Bool) (own : ℕ → List (List (List Fp))) → ByTheRules t down own → (k l j : ℕ) → 1 ≤ k → k ≤ t.shape.dealers → down k ≡ false → l < 5 → 1 ≤ j → j ≤ t.shape.receivers →
-    reveals t.shape (own k) (posts_in t 3) k l j ≡ shown (instance_of (play_of t down own) ((k - 1) * 5 + l)) j
+    reveals t.shape (own k) (posts_in t 3) k l j ≡ shown (instance_of (play_of t down own) (instance_at k l)) j
 reveals_is t down own h k l j k1 kn up l5 j1 jn =
     let p : Play = play_of t down own in
-    let i : ℕ = (k - 1) * 5 + l in
+    let i : ℕ = instance_at k l in
     let g : List (List Fp) = get_or (own (dealer_of i)) (lane_of i) [] in
     reveal_of_same t.shape.receivers (get_or (own k) l []) g _ (complaint (instance_of p i) j) j (sym (grid_there own k l k1 l5))
     (λ m m1 mn. heard_complaint_is p (posts_in t 3) i j m (omega (arith, l5, k1, kn)) m1 mn (complaints_said t down own h j j1 jn (down (seat_of t.shape j)) refl))
@@ -340,8 +341,8 @@ reveals_said t down own h k k1 kn false e =
     ∙ post_as_said t.shape 4 k (has (t.mask 4) k) _ (reveals_by p k) (h.in_mask 3 k three_five hk)
     (h.posts 3 k three_five hk
     ∙ cond-true (deals t.shape k) _ _ (within_from 1 k t.shape.dealers k1 kn)
-    ∙ ap (λ rs. Reveals rs) (reveal_list_same t.shape.degree t.shape.receivers _ (λ l j. shown (instance_of p ((k - 1) * 5 + l)) j) (λ l j l5 j1 jn. reveals_is t down own h k l j k1 kn e l5 j1 jn)))
-    (and_from (deals t.shape k) _ (within_from 1 k t.shape.dealers k1 kn) (reveals_shape t.shape (λ l j. shown (instance_of p ((k - 1) * 5 + l)) j)))
+    ∙ ap (λ rs. Reveals rs) (reveal_list_same t.shape.degree t.shape.receivers _ (λ l j. shown (instance_of p (instance_at k l)) j) (λ l j l5 j1 jn. reveals_is t down own h k l j k1 kn e l5 j1 jn)))
+    (and_from (deals t.shape k) _ (within_from 1 k t.shape.dealers k1 kn) (reveals_shape t.shape (λ l j. shown (instance_of p (instance_at k l)) j)))
 
 pub shown_heard : (t : Transcript) (down : ℕ → Bool) (own : ℕ → List (List (List Fp))) → ByTheRules t down own → (i j : ℕ) → i < instances t.shape → 1 ≤ j → j ≤ t.shape.receivers →
     heard_shown (posts_in t 4) i j ≡ shown (instance_of (play_of t down own) i) j

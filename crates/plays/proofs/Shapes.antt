@@ -3,13 +3,14 @@ use Rattle.std.proofs.Common.{◌≡◌, ℕ, zero, suc, ◌+◌, ◌*◌, ◌<�
 use Rattle.std.specs.List.{flat_map, range_with_len}
 use Rattle.std.proofs.lemmas.Bool.{and_from, or_left, or_right, lt-ltb, le-leb, eq-eqb}
 use Rattle.std.proofs.lemmas.List.FromFn.{length-map-range_with_len}
-use Rattle.sharing61.specs.Rules.{Pair, Two}
+use Rattle.sharing61.specs.Rules.{Pair}
+use Rattle.sharing61.specs.declared.Crossing.{Crossing}
 use Rattle.talk.specs.declared.messages.Complaint.{Complaint}
 use Rattle.talk.specs.declared.messages.Reveal.{Reveal}
 use Rattle.talk.specs.Shape.{Shape, instances, within}
 use Rattle.talk.specs.Read.{comes_before, complaints_ok, reveals_ok}
 use Rattle.talk.proofs.Ascending.{complaints_from, reveals_from, complaints_are, reveals_are}
-use Rattle.plays.specs.Said.{points_up_to, padded, pair_list, two_list, complaint_item, complaint_list, reveal_item, reveal_list, dealt_list, cross_list, vote_list}
+use Rattle.plays.specs.Said.{points_up_to, padded, pair_list, crossing_values, complaint_item, complaint_list, reveal_item, reveal_list, dealt_list, cross_list, vote_list}
 use Rattle.plays.proofs.Dealt.{length-padded}
 
 -- ---- lists made place by place ascend
@@ -57,7 +58,7 @@ all_go from item m n go end (suc l) i x y le e =
     row_goes from item m n go i (flat_map (λ j. flat_map (item j) (points_up_to n)) (range_with_len (i + 1) l)) (omega (arith, le))
     (λ a b lt. all_go from item m n go end l (i + 1) a b (omega (arith, le)) (inl lt)) n 1 x y (omega arith) (omega arith) e
 
-complaint_goes : (s : Shape) (o : ℕ → ℕ → Option Two) (i k x y : ℕ) (q : Option Two) (rest : List Complaint) → i < instances s → 1 ≤ k → k ≤ s.receivers → Early x y i k →
+complaint_goes : (s : Shape) (o : ℕ → ℕ → Option Crossing) (i k x y : ℕ) (q : Option Crossing) (rest : List Complaint) → i < instances s → 1 ≤ k → k ≤ s.receivers → Early x y i k →
     Rest (complaints_from s) i (k + 1) rest → complaints_from s x y (complaint_item i k q ++ rest) ≡ true
 complaint_goes s o i k x y None rest im k1 kn e h = h x y (later x y i k e)
 complaint_goes s o i k x y (Some t) rest im k1 kn e h =
@@ -66,7 +67,7 @@ complaint_goes s o i k x y (Some t) rest im k1 kn e h =
     (and_from (ltb i (instances s)) _ (lt-ltb i (instances s) im) (within_from 1 k s.receivers k1 kn))
     (h i k (inr (refl, omega arith))))
 
-pub complaints_shape : (s : Shape) (o : ℕ → ℕ → Option Two) → complaints_ok s (complaint_list (instances s) s.receivers o) ≡ true
+pub complaints_shape : (s : Shape) (o : ℕ → ℕ → Option Crossing) → complaints_ok s (complaint_list (instances s) s.receivers o) ≡ true
 complaints_shape s o =
     complaints_are s (complaint_list (instances s) s.receivers o)
     ∙ all_go (complaints_from s) (λ i k. complaint_item i k (o i k)) (instances s) s.receivers
@@ -109,8 +110,8 @@ length-dealt d pair =
           (λ l. omega (arith, length-append (padded (d + 1) (pair l).row.coeffs) (padded (d + 1) (pair l).column.coeffs), length-padded (d + 1) (pair l).row.coeffs, length-padded (d + 1) (pair l).column.coeffs)) 5 0,
     )
 
-pub length-cross : (m : ℕ) (two : ℕ → Two) → length (cross_list m two) ≡ 2 * m
-length-cross m two = omega (arith, length-flat (λ i. two_list (two i)) 2 (λ i. refl) m 0)
+pub length-cross : (m : ℕ) (two : ℕ → Crossing) → length (cross_list m two) ≡ 2 * m
+length-cross m two = omega (arith, length-flat (λ i. crossing_values (two i)) 2 (λ i. refl) m 0)
 
 pub length-votes : (m : ℕ) (vote : ℕ → Bool) → length (vote_list m vote) ≡ m
 length-votes m vote = length-map-range_with_len vote 0 m

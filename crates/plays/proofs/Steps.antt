@@ -3,7 +3,8 @@ use Rattle.std.proofs.Common.{◌≡◌, ℕ, zero, suc, ◌+◌, ◌<◌, ◌�
 use Rattle.std.specs.List.{flat_map, range_with_len}
 use Rattle.std.proofs.lemmas.Bool.{cond-true, cond-false, eqb-true}
 use Rattle.std.proofs.lemmas.List.FromFn.{get_or-map-range_with_len}
-use Rattle.sharing61.specs.Rules.{Pair, Two, zero_pair, at_point, complaint_of}
+use Rattle.sharing61.specs.Rules.{Pair, zero_pair, at_point, complaint_of}
+use Rattle.sharing61.specs.declared.Crossing.{Crossing}
 use Rattle.sharing61.specs.Instance.{held, complaint, crossing_pair}
 use Rattle.sharing61.proofs.Own.{complaint_up}
 use Rattle.talk.specs.declared.messages.Ring.{Ring}
@@ -19,7 +20,7 @@ pub flat_same : {A : Type 0} (f g : ℕ → List A) (n a : ℕ) → ((k : ℕ) �
 flat_same f g zero a h = refl
 flat_same f g (suc n) a h = ap₂ (λ xs ys. xs ++ ys) (h a (omega arith) (omega arith)) (flat_same f g n (a + 1) (λ k l m. h k (omega arith) (omega arith)))
 
-pub complaint_list_same : (m n : ℕ) (o q : ℕ → ℕ → Option Two) → ((i k : ℕ) → i < m → 1 ≤ k → k ≤ n → o i k ≡ q i k) → complaint_list m n o ≡ complaint_list m n q
+pub complaint_list_same : (m n : ℕ) (o q : ℕ → ℕ → Option Crossing) → ((i k : ℕ) → i < m → 1 ≤ k → k ≤ n → o i k ≡ q i k) → complaint_list m n o ≡ complaint_list m n q
 complaint_list_same m n o q h =
     flat_same (λ i. complaint_row i n (o i)) (λ i. complaint_row i n (q i)) m 0
     (λ i a b. flat_same (λ k. complaint_item i k (o i k)) (λ k. complaint_item i k (q i k)) n 1

@@ -12,28 +12,28 @@ use Rattle.plays.specs.Stage.{receiver_at}
 
 -- what a seat that goes by the rules posts in a round
 abbrev pub post_by : Play → ℕ → ℕ → Post
-post_by p round seat =
-    cond (eqb round 3 && receives p.shape seat) (complaints_by p (receiver_at p.shape seat))
-    (cond (eqb round 4 && deals p.shape seat) (reveals_by p seat)
-    (cond (eqb round 5 && receives p.shape seat) (votes_by p (receiver_at p.shape seat)) Quiet))
+post_by play round seat =
+    cond (eqb round 3 && receives play.shape seat) (complaints_by play (receiver_at play.shape seat))
+    (cond (eqb round 4 && deals play.shape seat) (reveals_by play seat)
+    (cond (eqb round 5 && receives play.shape seat) (votes_by play (receiver_at play.shape seat)) Quiet))
 
 -- what it sends to another seat
 abbrev pub ring_by : Play → ℕ → ℕ → ℕ → Ring
-ring_by p round seat to =
-    cond (eqb round 1 && (deals p.shape seat && (receives p.shape to && not (eqb seat to)))) (dealt_by p seat (receiver_at p.shape to))
-    (cond (eqb round 2 && (receives p.shape seat && (receives p.shape to && not (eqb seat to)))) (crossed_by p (receiver_at p.shape seat) (receiver_at p.shape to)) Nothing)
+ring_by play round seat to =
+    cond (eqb round 1 && (deals play.shape seat && (receives play.shape to && not (eqb seat to)))) (dealt_by play seat (receiver_at play.shape to))
+    (cond (eqb round 2 && (receives play.shape seat && (receives play.shape to && not (eqb seat to)))) (crossed_by play (receiver_at play.shape seat) (receiver_at play.shape to)) Nothing)
 
 -- what is heard of a seat: its post, and its ring message to another
 abbrev pub post_heard : Play → ℕ → ℕ → Post
-post_heard p round seat = unless_down (p.down seat) (p.post round seat) (post_by p round seat)
+post_heard play round seat = unless_down (play.down seat) (play.post round seat) (post_by play round seat)
 
 abbrev pub ring_heard : Play → ℕ → ℕ → ℕ → Ring
-ring_heard p round seat to = unless_down (p.down seat) (p.ring round seat to) (ring_by p round seat to)
+ring_heard play round seat to = unless_down (play.down seat) (play.ring round seat to) (ring_by play round seat to)
 
 -- what a seat hears of all
 abbrev pub play_heard : Play → ℕ → ℕ → Heard
-play_heard p round to =
+play_heard play round to =
     record {
-      posts = map (post_heard p round) (points_up_to (seats p.shape));
-      rings = map (λ seat. ring_heard p round seat to) (points_up_to (seats p.shape));
+      posts = map (post_heard play round) (points_up_to (seats play.shape));
+      rings = map (λ seat. ring_heard play round seat to) (points_up_to (seats play.shape));
     }

@@ -6,7 +6,7 @@ use Rattle.sharing61.specs.Instance.{Dealer, Honest, Faulty, Instance, share}
 use Rattle.talk.specs.declared.messages.Post.{Post}
 use Rattle.talk.specs.declared.messages.Ring.{Ring}
 use Rattle.talk.specs.Shape.{Shape}
-use Rattle.sizes.specs.Instances.{dealer_of, lane_of}
+use Rattle.sizes.specs.Instances.{dealer_of, lane_of, instance_at}
 use Rattle.plays.specs.Read.{dealt_in, crossed_in, listed_in, shown_in, voted_in}
 
 -- down seat: the seat is faulty, or takes no part; it says what `post` and `ring` give, which is read only in its shape
@@ -21,33 +21,33 @@ pub record Play : Type 0 where
 
 -- the seat of receiver j
 abbrev pub seat_of : Shape → ℕ → ℕ
-seat_of s j = s.shift + j
+seat_of shape receiver = shape.shift + receiver
 
 -- an honest dealer has its grid; one that is down has what its messages of the first and the fourth round tell
 abbrev pub dealer_if : Bool → Play → ℕ → Dealer
-dealer_if false p i = Honest (p.grid i)
-dealer_if true p i =
-    Faulty (λ j. dealt_in p.shape.degree (lane_of i) (p.ring 1 (dealer_of i) (seat_of p.shape j)))
-    (λ j. shown_in (lane_of i) j (p.post 4 (dealer_of i)))
+dealer_if false play instance = Honest (play.grid instance)
+dealer_if true play instance =
+    Faulty (λ j. dealt_in play.shape.degree (lane_of instance) (play.ring 1 (dealer_of instance) (seat_of play.shape j)))
+    (λ j. shown_in (lane_of instance) j (play.post 4 (dealer_of instance)))
 
 -- instance i of a play: the sharing by one dealer in one lane
 unfoldable pub instance_of : Play → ℕ → Instance
-instance_of p i = record {
-  receivers = p.shape.receivers;
-  bound = p.shape.bound;
-  down = λ j. p.down (seat_of p.shape j);
-  dealer = dealer_if (p.down (dealer_of i)) p i;
-  crossed = λ k j. crossed_in i (p.ring 2 (seat_of p.shape k) (seat_of p.shape j));
-  listed = λ j k. listed_in i k (p.post 3 (seat_of p.shape j));
-  voted = λ j. voted_in i (p.post 5 (seat_of p.shape j));
+instance_of play instance = record {
+  receivers = play.shape.receivers;
+  bound = play.shape.bound;
+  down = λ j. play.down (seat_of play.shape j);
+  dealer = dealer_if (play.down (dealer_of instance)) play instance;
+  crossed = λ k j. crossed_in instance (play.ring 2 (seat_of play.shape k) (seat_of play.shape j));
+  listed = λ j k. listed_in instance k (play.post 3 (seat_of play.shape j));
+  voted = λ j. voted_in instance (play.post 5 (seat_of play.shape j));
 }
 
 -- the sum over the dealers 1 to n of the shares of receiver j in lane l. In an instance that isn't accepted the
 -- share is 0
 abbrev pub lane_sum : ℕ → Play → ℕ → ℕ → Fp
-lane_sum zero p l j = zeroₚ
-lane_sum (suc n) p l j = lane_sum n p l j +ₚ share (instance_of p (n * 5 + l)) j
+lane_sum zero play lane receiver = zeroₚ
+lane_sum (suc count) play lane receiver = lane_sum count play lane receiver +ₚ share (instance_of play (instance_at (suc count) lane)) receiver
 
 -- the created share of receiver j in lane l
 abbrev pub created_share : Play → ℕ → ℕ → Fp
-created_share p l j = lane_sum p.shape.dealers p l j
+created_share play lane receiver = lane_sum play.shape.dealers play lane receiver

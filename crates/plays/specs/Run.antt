@@ -18,12 +18,12 @@ use Rattle.plays.specs.Stage.{Stage, AtReady, AtDone, stage_after, stage_post, s
 -- The play of a transcript: the seats that are down say what is heard of them. own seat is the list of the grids that
 -- an honest seat deals, lane by lane
 abbrev pub play_of : Transcript → (ℕ → Bool) → (ℕ → List (List (List Fp))) → Play
-play_of t down own = record {
-  shape = t.shape;
+play_of transcript down own = record {
+  shape = transcript.shape;
   down = down;
   grid = λ i. get_or (own (dealer_of i)) (lane_of i) [];
-  post = λ round seat. post_at (posts_in t round) seat;
-  ring = λ round seat to. ring_at (rings_in t round to) seat;
+  post = λ round seat. post_at (posts_in transcript round) seat;
+  ring = λ round seat to. ring_at (rings_in transcript round to) seat;
 }
 
 -- the play of a run over minds
@@ -32,9 +32,9 @@ run_play ways shape masks minds down own = play_of (transcript_of ways shape mas
 
 -- where a seat that goes by the rules has come after the first rounds
 abbrev pub stage_in : Transcript → List (List (List Fp)) → ℕ → ℕ → Stage
-stage_in t own seat zero = AtReady
-stage_in t own seat (suc round) =
-    stage_after t.shape (receiver_at t.shape seat) own (heard_in t (suc round) seat) (stage_in t own seat round)
+stage_in transcript own seat zero = AtReady
+stage_in transcript own seat (suc round) =
+    stage_after transcript.shape (receiver_at transcript.shape seat) own (heard_in transcript (suc round) seat) (stage_in transcript own seat round)
 
 -- in the five rounds of the sharing every honest seat is heard, and it says what it has to by the rules
 pub record ByTheRules (run : Transcript) (down : ℕ → Bool) (own : ℕ → List (List (List Fp))) : Type 0 where
@@ -51,7 +51,7 @@ pub record ByTheRules (run : Transcript) (down : ℕ → Bool) (own : ℕ → Li
 
 -- the pairs and the answers that a play defines for receiver j in the end
 abbrev pub done_stage : Play → ℕ → Stage
-done_stage p j = AtDone (map (λ i. kept (instance_of p i) j) (places (instances p.shape))) (map (λ i. accepted (instance_of p i)) (places (instances p.shape)))
+done_stage play receiver = AtDone (map (λ i. kept (instance_of play i) receiver) (places (instances play.shape))) (map (λ i. accepted (instance_of play i)) (places (instances play.shape)))
 
 -- where the honest seats go by the rules, every honest receiver ends at what the play defines
 abbrev pub RunIsPlay : Type 0

@@ -33,41 +33,41 @@ IsTurn round (AtDone ps acc) = ⊥
 
 -- the receiver on a seat, 0 on a seat before all receivers
 abbrev pub receiver_at : Shape → ℕ → ℕ
-receiver_at s seat = seat - s.shift
+receiver_at shape seat = seat - shape.shift
 
 -- how many instances receiver me receives: none where there is no such receiver
 abbrev pub received : Shape → ℕ → ℕ
-received s me = cond (within 1 me s.receivers) (instances s) 0
+received shape me = cond (within 1 me shape.receivers) (instances shape) 0
 
 -- what a seat keeps after hearing a round, of the n instances that it receives. own is the list of the grids that it deals
 abbrev pub kept_of_round : ℕ → Shape → ℕ → List (List (List Fp)) → Heard → Stage → Stage
-kept_of_round n s me own h AtReady = AtDealt (map (holds s me own h.rings) (places n))
-kept_of_round n s me own h (AtDealt ps) = AtCrossed ps (complaint_list n s.receivers (complains s me ps h.rings))
-kept_of_round n s me own h (AtCrossed ps cs) = AtComplained ps h.posts
-kept_of_round n s me own h (AtComplained ps third) = AtRevealed ps h.posts (vote_list n (says_yes s me ps third h.posts))
-kept_of_round n s me own h (AtRevealed ps fourth votes) = AtDone (map (keeps s me ps fourth h.posts) (places n)) (map (heard_accepted s h.posts) (places n))
-kept_of_round n s me own h (AtDone ps acc) = AtDone ps acc
+kept_of_round count shape me own heard AtReady = AtDealt (map (holds shape me own heard.rings) (places count))
+kept_of_round count shape me own heard (AtDealt ps) = AtCrossed ps (complaint_list count shape.receivers (complains shape me ps heard.rings))
+kept_of_round count shape me own heard (AtCrossed ps cs) = AtComplained ps heard.posts
+kept_of_round count shape me own heard (AtComplained ps third) = AtRevealed ps heard.posts (vote_list count (says_yes shape me ps third heard.posts))
+kept_of_round count shape me own heard (AtRevealed ps fourth votes) = AtDone (map (keeps shape me ps fourth heard.posts) (places count)) (map (heard_accepted shape heard.posts) (places count))
+kept_of_round count shape me own heard (AtDone ps acc) = AtDone ps acc
 
 -- what the seat of receiver me keeps after hearing a round
 abbrev pub stage_after : Shape → ℕ → List (List (List Fp)) → Heard → Stage → Stage
-stage_after s me own h stage = kept_of_round (received s me) s me own h stage
+stage_after shape me own heard stage = kept_of_round (received shape me) shape me own heard stage
 
 -- what a seat posts: a receiver its complaints and its votes, a dealer its reveals
 abbrev pub stage_post : Shape → ℕ → List (List (List Fp)) → Stage → Post
-stage_post s seat own AtReady = Quiet
-stage_post s seat own (AtDealt ps) = Quiet
-stage_post s seat own (AtCrossed ps cs) = cond (receives s seat) (Complaints cs) Quiet
-stage_post s seat own (AtComplained ps third) = cond (deals s seat) (Reveals (reveal_list s.degree s.receivers (reveals s own third seat))) Quiet
-stage_post s seat own (AtRevealed ps fourth votes) = cond (receives s seat) (Votes votes) Quiet
-stage_post s seat own (AtDone ps acc) = Quiet
+stage_post shape seat own AtReady = Quiet
+stage_post shape seat own (AtDealt ps) = Quiet
+stage_post shape seat own (AtCrossed ps cs) = cond (receives shape seat) (Complaints cs) Quiet
+stage_post shape seat own (AtComplained ps third) = cond (deals shape seat) (Reveals (reveal_list shape.degree shape.receivers (reveals shape own third seat))) Quiet
+stage_post shape seat own (AtRevealed ps fourth votes) = cond (receives shape seat) (Votes votes) Quiet
+stage_post shape seat own (AtDone ps acc) = Quiet
 
 -- what a seat sends to another: a dealer the receiver's pairs, a receiver its values at the other's point
 abbrev pub stage_ring : Shape → ℕ → List (List (List Fp)) → Stage → ℕ → Ring
-stage_ring s seat own AtReady to =
-    cond (deals s seat && (receives s to && not (eqb seat to))) (Dealt (dealt_list s.degree (λ l. pair_on (get_or own l []) (receiver_at s to)))) Nothing
-stage_ring s seat own (AtDealt ps) to =
-    cond (receives s seat && (receives s to && not (eqb seat to))) (Cross (cross_list (instances s) (λ i. at_point (pair_at ps i) (receiver_at s to)))) Nothing
-stage_ring s seat own (AtCrossed ps cs) to = Nothing
-stage_ring s seat own (AtComplained ps third) to = Nothing
-stage_ring s seat own (AtRevealed ps fourth votes) to = Nothing
-stage_ring s seat own (AtDone ps acc) to = Nothing
+stage_ring shape seat own AtReady to =
+    cond (deals shape seat && (receives shape to && not (eqb seat to))) (Dealt (dealt_list shape.degree (λ l. pair_on (get_or own l []) (receiver_at shape to)))) Nothing
+stage_ring shape seat own (AtDealt ps) to =
+    cond (receives shape seat && (receives shape to && not (eqb seat to))) (Cross (cross_list (instances shape) (λ i. at_point (pair_at ps i) (receiver_at shape to)))) Nothing
+stage_ring shape seat own (AtCrossed ps cs) to = Nothing
+stage_ring shape seat own (AtComplained ps third) to = Nothing
+stage_ring shape seat own (AtRevealed ps fourth votes) to = Nothing
+stage_ring shape seat own (AtDone ps acc) to = Nothing

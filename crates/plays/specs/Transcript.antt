@@ -15,17 +15,17 @@ pub record Transcript : Type 0 where
 
 -- the transcript of a run over minds, under the masks of its rounds
 abbrev pub transcript_of : {M : Type 0} → Ways M → Shape → List ℕ → List M → Transcript
-transcript_of w s masks ms = record { shape = s; mask = λ round. get_or masks (round - 1) 0; words = words_in w s masks ms }
+transcript_of ways shape masks ms = record { shape = shape; mask = λ round. get_or masks (round - 1) 0; words = words_in ways shape masks ms }
 
 -- the posts that are heard in a round, and the ring messages that a seat hears
 abbrev pub posts_in : Transcript → ℕ → List Post
-posts_in t round = posts_heard t.shape round (t.mask round) 1 (t.words round)
+posts_in transcript round = posts_heard transcript.shape round (transcript.mask round) 1 (transcript.words round)
 
 abbrev pub rings_in : Transcript → ℕ → ℕ → List Ring
-rings_in t round to = rings_heard t.shape round (t.mask round) to 1 (t.words round)
+rings_in transcript round to = rings_heard transcript.shape round (transcript.mask round) to 1 (transcript.words round)
 
 abbrev pub heard_in : Transcript → ℕ → ℕ → Heard
-heard_in t round to = heard_at t.shape round (t.mask round) (t.words round) to
+heard_in transcript round to = heard_at transcript.shape round (transcript.mask round) (transcript.words round) to
 
 -- a seat of the setting that is not down
 pub record HonestSeat (s : Shape) (down : ℕ → Bool) (seat : ℕ) : Type 0 where

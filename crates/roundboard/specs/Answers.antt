@@ -16,7 +16,8 @@ use Rattle.roundboard.specs.declared.view.Deed.TheVariants.{Posted, Passed, Look
 use Rattle.roundboard.specs.Rule.{event, control_round}
 use Rattle.roundboard.specs.Pages.{mask_in}
 use Rattle.roundboard.specs.Logs.{Arrival}
-use Rattle.roundboard.specs.Cells.{Rose, knows, missed}
+use Rattle.roundboard.specs.Cells.{knows, missed}
+use Rattle.counters.specs.Counts.{RoseByOne}
 use Rattle.roundboard.specs.declared.cells.Cells.{Cells}
 
 -- a look that found the frozen word unset, and then the control word c
@@ -64,10 +65,10 @@ CutTells seats r m w old new = Arrival seats r (Cut m w) w (bit_or w (m * 2 ^ 30
 -- the value comes back, and the cell refused it where that is the answer; want of memory leaves the count of refusals
 abbrev pub FaultTells : {T : Type 0} → T → ℕ → ℕ → PostFault T → Type 0
 FaultTells x before now (OutOfMemory back) = (back ≡ x) × (now ≡ before)
-FaultTells x before now (Cell back) = (back ≡ x) × Rose before now
+FaultTells x before now (Cell back) = (back ≡ x) × RoseByOne before now
 
 -- a read of the cell i, of a place that is in the mask where the bit is 1; its count of misses rises where the cell showed no value, and else stands
 abbrev pub ReadTells : {T : Type 0} → ℕ → ℕ → Cells T → Cells T → Read T → Type 0
 ReadTells bit i old new Absent = (bit ≡ 0) × (missed new i ≡ missed old i)
 ReadTells bit i old new (Got x) = (bit ≡ 1) × (knows new i ≡ Some x.now) × (missed new i ≡ missed old i)
-ReadTells bit i old new Unread = (bit ≡ 1) × (knows old i ≡ None) × Rose (missed old i) (missed new i)
+ReadTells bit i old new Unread = (bit ≡ 1) × (knows old i ≡ None) × RoseByOne (missed old i) (missed new i)

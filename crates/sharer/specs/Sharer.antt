@@ -42,4 +42,4 @@ fourth_in (AtDone pairs accepted) = None
 
 -- a mind whose phase has no sixth round is made for its member's setting, of five rounds, and its member's seat
 abbrev pub MadeFor : Member → Shape → ℕ → Type 0
-MadeFor m s seat = (m.shape ≡ s) × (m.seat ≡ seat) × (s.checks ≡ 0)
+MadeFor member shape seat = (member.shape ≡ shape) × (member.seat ≡ seat) × (shape.checks ≡ 0)

@@ -17,12 +17,12 @@ use Rattle.sharer.specs.declared.sharer.Sharer.TheInside.{Inside}
 -- the grids that a seat deals
 abbrev pub grids_of : Option DealerState → List (List (List Fp))
 grids_of None = []
-grids_of (Some d) = d.grids
+grids_of (Some dealer) = dealer.grids
 
 -- the dealer of a seat: none where the seat deals nothing
 abbrev pub DealsOn : Shape → ℕ → Option DealerState → Type 0
-DealsOn s seat None = deals s seat ≡ false
-DealsOn s seat (Some d) = (d.shape ≡ s) × (d.me ≡ seat) × (deals s seat ≡ true)
+DealsOn shape seat None = deals shape seat ≡ false
+DealsOn shape seat (Some dealer) = (dealer.shape ≡ shape) × (dealer.me ≡ seat) × (deals shape seat ≡ true)
 
 -- a seat of the setting, with its dealer
 pub record IsPlace (p : Place) : Type 0 where
@@ -54,56 +54,56 @@ stage_at Over = AtDone [] []
 
 -- the turn after hearing a round
 abbrev pub turn_after : Heard → Turn → Turn
-turn_after h First = Second
-turn_after h Second = Third
-turn_after h Third = Fourth h.posts
-turn_after h (Fourth third) = Fifth h.posts
-turn_after h (Fifth fourth) = Over
-turn_after h Over = Over
+turn_after heard First = Second
+turn_after heard Second = Third
+turn_after heard Third = Fourth heard.posts
+turn_after heard (Fourth third) = Fifth heard.posts
+turn_after heard (Fifth fourth) = Over
+turn_after heard Over = Over
 
 -- how far a seat has come
 abbrev pub stage_of : At → Stage
-stage_of (Ready r) = AtReady
-stage_of (Dealt d) = AtDealt d.pairs
-stage_of (Crossed c) = AtCrossed c.pairs c.complaints
-stage_of (Complained c) = AtComplained c.pairs c.third
-stage_of (Revealed r) = AtRevealed r.pairs r.fourth r.votes
-stage_of (Done d) = AtDone d.kept d.accepted
-stage_of (Deals t) = stage_at t
+stage_of (Ready state) = AtReady
+stage_of (Dealt state) = AtDealt state.pairs
+stage_of (Crossed state) = AtCrossed state.pairs state.complaints
+stage_of (Complained state) = AtComplained state.pairs state.third
+stage_of (Revealed state) = AtRevealed state.pairs state.fourth state.votes
+stage_of (Done state) = AtDone state.kept state.accepted
+stage_of (Deals state) = stage_at state
 
 -- the posts of the third round that a seat which only deals has are those of all seats
 abbrev pub HasAll : Shape → Turn → Type 0
-HasAll s First = Unit {0}
-HasAll s Second = Unit {0}
-HasAll s Third = Unit {0}
-HasAll s (Fourth third) = length third ≡ seats s
-HasAll s (Fifth fourth) = Unit {0}
-HasAll s Over = Unit {0}
+HasAll shape First = Unit {0}
+HasAll shape Second = Unit {0}
+HasAll shape Third = Unit {0}
+HasAll shape (Fourth third) = length third ≡ seats shape
+HasAll shape (Fifth fourth) = Unit {0}
+HasAll shape Over = Unit {0}
 
 -- the state is that of the receiver on the seat; in the end there is an answer to each instance. Or none sits there
 abbrev pub Belongs : Shape → ℕ → At → Type 0
-Belongs s seat (Ready r) = (r.shape ≡ s) × Receives s seat r.me
-Belongs s seat (Dealt d) = (d.shape ≡ s) × Receives s seat d.me
-Belongs s seat (Crossed c) = (c.shape ≡ s) × Receives s seat c.me
-Belongs s seat (Complained c) = (c.shape ≡ s) × Receives s seat c.me
-Belongs s seat (Revealed r) = (r.shape ≡ s) × Receives s seat r.me
-Belongs s seat (Done d) = (d.shape ≡ s) × Receives s seat d.me × (length d.accepted ≡ instances s)
-Belongs s seat (Deals t) = OnlyDeals s seat × HasAll s t
+Belongs shape seat (Ready state) = (state.shape ≡ shape) × Receives shape seat state.me
+Belongs shape seat (Dealt state) = (state.shape ≡ shape) × Receives shape seat state.me
+Belongs shape seat (Crossed state) = (state.shape ≡ shape) × Receives shape seat state.me
+Belongs shape seat (Complained state) = (state.shape ≡ shape) × Receives shape seat state.me
+Belongs shape seat (Revealed state) = (state.shape ≡ shape) × Receives shape seat state.me
+Belongs shape seat (Done state) = (state.shape ≡ shape) × Receives shape seat state.me × (length state.accepted ≡ instances shape)
+Belongs shape seat (Deals state) = OnlyDeals shape seat × HasAll shape state
 
 -- the stage after hearing
 abbrev pub next_stage : Place → Heard → Stage → Stage
-next_stage p h stage = stage_after p.setting (receiver_at p.setting p.seat) (grids_of p.dealer) h stage
+next_stage place heard stage = stage_after place.setting (receiver_at place.setting place.seat) (grids_of place.dealer) heard stage
 
 -- what a step answers: the next stage of the same seat, or the state as it was where memory is wanting
 abbrev pub StepsTo : Place → Heard → At → Result At At → Type 0
-StepsTo p h at result = MatchResult result (λ a. (stage_of a ≡ next_stage p h (stage_of at)) × Belongs p.setting p.seat a) (λ a. a ≡ at)
+StepsTo place heard at result = MatchResult result (λ a. (stage_of a ≡ next_stage place heard (stage_of at)) × Belongs place.setting place.seat a) (λ a. a ≡ at)
 
 -- the member that a place and a state are
 abbrev pub member_in : Place → At → Member
-member_in p at = record { shape = p.setting; seat = p.seat; grids = grids_of p.dealer; stage = stage_of at }
+member_in place at = record { shape = place.setting; seat = place.seat; grids = grids_of place.dealer; stage = stage_of at }
 
 abbrev pub view_sharer : Inside → Member
-view_sharer a = member_in a.place a.at
+view_sharer inside = member_in inside.place inside.at
 
 pub record Whole (a : Inside) : Type 0 where
   pub place : IsPlace a.place

@@ -20,7 +20,8 @@ use talk::{Post, PostList, Ring, RingList};
 pub(crate) fn post_of(alloc: Global, place: &Place, at: &At) -> Result<Post, OutOfMemory>
     requires place { IsPlace place.now }
     requires belongs { Belongs place.now.setting place.now.seat at.now }
-    ensures { IfOk result (λ p. p ≡ stage_post place.now.setting place.now.seat (grids_of place.now.dealer) (stage_of at.now)) }
+    ensures { IfOk result
+        (λ p. p ≡ stage_post place.now.setting place.now.seat (grids_of place.now.dealer) (stage_of at.now)) }
 {
     match at {
         At::Crossed(crossed) => Ok(Post::Complaints {
@@ -39,7 +40,9 @@ pub(crate) fn post_of(alloc: Global, place: &Place, at: &At) -> Result<Post, Out
 fn reveals_of(alloc: Global, place: &Place, third: &PostList) -> Result<Post, OutOfMemory>
     requires dealer { DealsOn place.now.setting place.now.seat place.now.dealer }
     requires all { length third.now ≡ seats place.now.setting }
-    ensures { IfOk result (λ p. p ≡ stage_post place.now.setting place.now.seat (grids_of place.now.dealer) (AtComplained [] third.now)) }
+    ensures { IfOk result
+        (λ p. p ≡ stage_post place.now.setting place.now.seat (grids_of place.now.dealer)
+        (AtComplained [] third.now)) }
 {
     match &place.dealer {
         Some(dealer) => Ok(Post::Reveals {
@@ -53,7 +56,8 @@ fn reveals_of(alloc: Global, place: &Place, third: &PostList) -> Result<Post, Ou
 pub(crate) fn rings_of(alloc: Global, place: &Place, at: &At) -> Result<RingList, OutOfMemory>
     requires place { IsPlace place.now }
     requires belongs { Belongs place.now.setting place.now.seat at.now }
-    ensures { IfOk result (λ l. l ≡ rings_said place.now.setting place.now.seat (grids_of place.now.dealer) (stage_of at.now)) }
+    ensures { IfOk result
+        (λ l. l ≡ rings_said place.now.setting place.now.seat (grids_of place.now.dealer) (stage_of at.now)) }
 {
     let mut rings = RingList::new(alloc);
     for to in 1..place.setting.seats() + 1 {
@@ -67,7 +71,8 @@ fn ring_for(alloc: Global, place: &Place, at: &At, to: u32) -> Result<Ring, OutO
     requires place { IsPlace place.now }
     requires belongs { Belongs place.now.setting place.now.seat at.now }
     requires to { (1 ≤ to) × (to ≤ seats place.now.setting) }
-    ensures { IfOk result (λ r. r ≡ stage_ring place.now.setting place.now.seat (grids_of place.now.dealer) (stage_of at.now) to) }
+    ensures { IfOk result
+        (λ r. r ≡ stage_ring place.now.setting place.now.seat (grids_of place.now.dealer) (stage_of at.now) to) }
 {
     if to == place.seat || !place.setting.receives(to) {
         return Ok(Ring::Nothing);
@@ -86,7 +91,11 @@ fn ring_for(alloc: Global, place: &Place, at: &At, to: u32) -> Result<Ring, OutO
 fn deal_for(alloc: Global, place: &Place, receiver: u32) -> Result<Ring, OutOfMemory>
     requires dealer { DealsOn place.now.setting place.now.seat place.now.dealer }
     requires receiver { IsReceiver place.now.setting receiver }
-    ensures { IfOk result (λ r. r ≡ cond (deals place.now.setting place.now.seat) (Ring.Dealt (dealt_list place.now.setting.degree (λ l. pair_on (get_or (grids_of place.now.dealer) l []) receiver))) Ring.Nothing) }
+    ensures { IfOk result
+        (λ r. r ≡ cond (deals place.now.setting place.now.seat)
+        (Ring.Dealt
+        (dealt_list place.now.setting.degree
+        (λ l. pair_on (get_or (grids_of place.now.dealer) l []) receiver))) Ring.Nothing) }
 {
     match &place.dealer {
         Some(dealer) => Ok(Ring::Dealt {

@@ -81,7 +81,8 @@ impl Sharer {
         chance: &mut Chance,
     ) -> Result<Sharer, OutOfMemory>
         requires { IsDealer setting seat }
-        ensures is { IfOk result (λ m. m ≡ member_at setting seat (five_grids_drawn setting.degree chance.old.seed chance.old.taken).0) }
+        ensures is { IfOk result
+            (λ m. m ≡ member_at setting seat (five_grids_drawn setting.degree chance.old.seed chance.old.taken).0) }
         ensures after { OnOk result (chance.new ≡ record {
           seed = chance.old.seed;
           taken = (five_grids_drawn setting.degree chance.old.seed chance.old.taken).1;

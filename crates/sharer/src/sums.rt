@@ -7,6 +7,7 @@ ghost use Rattle.plays.specs.Said.{places};
 ghost use Rattle.members.specs.Shares.{share_sum};
 
 use field61::Fe;
+use sizes::Instance;
 use vss_core::Done;
 
 // The shares of all five lanes.
@@ -33,7 +34,11 @@ fn lane_share(done: &Done, dealers: u32, lane: u32) -> Fe
 {
     let mut sum = Fe::ZERO;
     for i in 0..dealers {
-        sum = sum.add(done.share(i * 5 + lane));
+        let instance = Instance {
+            dealer: i + 1,
+            lane,
+        };
+        sum = sum.add(done.share(instance.number()));
     }
     sum
 }

@@ -3,7 +3,8 @@ use Rattle.std.proofs.Common.{◌≡◌, ℕ, zero, suc, ◌+◌, ◌≤◌, Boo
 use Rattle.std.proofs.lemmas.Bool.{and_parts, and_from, or_parts, or_from, cases_eq, eqb-true, eq-eqb}
 use Rattle.algebra61.specs.Field.{Fp, same_num}
 use Rattle.sharing61.specs.Count.{everyone, anyone, how_many}
-use Rattle.sharing61.specs.Rules.{Two, same, same_two}
+use Rattle.sharing61.specs.Rules.{same, same_crossing}
+use Rattle.sharing61.specs.declared.Crossing.{Crossing}
 
 pub everyone_at : (n : ℕ) (f : ℕ → Bool) → everyone n f ≡ true → (k : ℕ) → 1 ≤ k → k ≤ n → f k ≡ true
 everyone_at zero f h k a b = absurd (omega arith)
@@ -93,14 +94,14 @@ same-true a b e = same_num a b (eqb-true a.num b.num e)
 pub same_from : (a b : Fp) → a ≡ b → same a b ≡ true
 same_from a b e = eq-eqb a.num b.num (ap (λ (x : Fp). x.num) e)
 
-two_is : (s t : Two) → s.u ≡ t.u → s.v ≡ t.v → s ≡ t
-two_is s t e f = ap₂ (λ (a b : Fp). let t : Two = record { u = a; v = b } in t) e f
+crossing_is : (s t : Crossing) → s.row ≡ t.row → s.column ≡ t.column → s ≡ t
+crossing_is s t e f = ap₂ (λ (a b : Fp). let t : Crossing = record { row = a; column = b } in t) e f
 
-pub same_two-true : (s t : Two) → same_two s t ≡ true → s ≡ t
-same_two-true s t e =
-    let both : (same s.u t.u ≡ true) × (same s.v t.v ≡ true) = and_parts (same s.u t.u) (same s.v t.v) e in
-    two_is s t (same-true s.u t.u both.0) (same-true s.v t.v both.1)
+pub same_crossing-true : (s t : Crossing) → same_crossing s t ≡ true → s ≡ t
+same_crossing-true s t e =
+    let both : (same s.row t.row ≡ true) × (same s.column t.column ≡ true) = and_parts (same s.row t.row) (same s.column t.column) e in
+    crossing_is s t (same-true s.row t.row both.0) (same-true s.column t.column both.1)
 
-pub same_two_from : (s t : Two) → s ≡ t → same_two s t ≡ true
-same_two_from s t e =
-    and_from (same s.u t.u) (same s.v t.v) (same_from s.u t.u (ap (λ (x : Two). x.u) e)) (same_from s.v t.v (ap (λ (x : Two). x.v) e))
+pub same_crossing_from : (s t : Crossing) → s ≡ t → same_crossing s t ≡ true
+same_crossing_from s t e =
+    and_from (same s.row t.row) (same s.column t.column) (same_from s.row t.row (ap (λ (x : Crossing). x.row) e)) (same_from s.column t.column (ap (λ (x : Crossing). x.column) e))

@@ -3,10 +3,11 @@ use Rattle.std.proofs.Common.{◌≡◌, ℕ, ◌-◌, ◌≤◌, Bool, true, fa
 use Rattle.std.proofs.lemmas.Bool.{and_from, le-leb, cond-false, not-false, not_from_true, not-true}
 use Rattle.algebra61.specs.Field.{Fp}
 use Rattle.sharing61.specs.Count.{everyone, anyone, how_many}
-use Rattle.sharing61.specs.Rules.{Two, at_point, swapped, same_two, pair_on, two_on, unless_same, complaint_of, off_grid, shown_if, reveal_of, told_same, settled, fits, revealed_or}
+use Rattle.sharing61.specs.Rules.{at_point, swapped, same_crossing, pair_on, crossing_on, unless_same, complaint_of, off_grid, shown_if, reveal_of, told_same, settled, fits, revealed_or}
+use Rattle.sharing61.specs.declared.Crossing.{Crossing}
 use Rattle.sharing61.specs.Instance.{Honest, Instance, held, held_from, crossing_pair, complaint, shown, shown_from, vote, accepted}
 use Rattle.sharing61.specs.Agreement.{HonestDealer, Proper, HonestReceiver}
-use Rattle.sharing61.proofs.Count.{everyone_from, anyone_at, anyone_not, how_many_not, how_many_more, same_two-true, same_two_from}
+use Rattle.sharing61.proofs.Count.{everyone_from, anyone_at, anyone_not, how_many_not, how_many_more, same_crossing-true, same_crossing_from}
 use Rattle.sharing61.proofs.Values.{at_pair_on}
 use Rattle.sharing61.proofs.Votes.{vote_is}
 use Rattle.sharing61.proofs.Agree.{kept_final}
@@ -24,13 +25,13 @@ unfolding complaint
 complaint_up i j k up = cond-false (i.down j) _ _ up
 
 -- a complaint tells the grid's values, where its maker holds them
-off_unless : (g : List (List Fp)) (j k : ℕ) (b : Bool) (mine : Two) → mine ≡ two_on g j k → off_grid g j k (unless_same b mine) ≡ false
+off_unless : (g : List (List Fp)) (j k : ℕ) (b : Bool) (mine : Crossing) → mine ≡ crossing_on g j k → off_grid g j k (unless_same b mine) ≡ false
 off_unless g j k true mine e = refl
-off_unless g j k false mine e = not_from_true _ (same_two_from mine (two_on g j k) e)
+off_unless g j k false mine e = not_from_true _ (same_crossing_from mine (crossing_on g j k) e)
 
-off_own : (g : List (List Fp)) (j k : ℕ) (mine : Two) (o : Option Two) → mine ≡ two_on g j k → off_grid g j k (complaint_of mine o) ≡ false
-off_own g j k mine None e = not_from_true _ (same_two_from mine (two_on g j k) e)
-off_own g j k mine (Some theirs) e = off_unless g j k (same_two theirs (swapped mine)) mine e
+off_own : (g : List (List Fp)) (j k : ℕ) (mine : Crossing) (o : Option Crossing) → mine ≡ crossing_on g j k → off_grid g j k (complaint_of mine o) ≡ false
+off_own g j k mine None e = not_from_true _ (same_crossing_from mine (crossing_on g j k) e)
+off_own g j k mine (Some theirs) e = off_unless g j k (same_crossing theirs (swapped mine)) mine e
 
 pub hidden_own : (i : Instance) (g : List (List Fp)) (j : ℕ) → i.dealer ≡ Honest g → HonestReceiver i j → shown i j ≡ None
 hidden_own i g j e s =
@@ -40,16 +41,16 @@ hidden_own i g j e s =
     (λ k a b. ap (off_grid g j k) (complaint_up i j k s.up) ∙ off_own g j k _ _ (ap (λ p. at_point p k) (held_own i g j e) ∙ at_pair_on g j k)))
 
 fits_if : (g : List (List Fp)) (j k : ℕ) (b : Bool) → fits j (pair_on g j) k (shown_if b (pair_on g k)) ≡ true
-fits_if g j k true = same_two_from _ _ (at_pair_on g k j ∙ sym (ap swapped (at_pair_on g j k)))
+fits_if g j k true = same_crossing_from _ _ (at_pair_on g k j ∙ sym (ap swapped (at_pair_on g j k)))
 fits_if g j k false = refl
 
-told_if : (g : List (List Fp)) (k l : ℕ) (s t : Option Two) → off_grid g k l s ≡ false → off_grid g l k t ≡ false → told_same s t ≡ true
+told_if : (g : List (List Fp)) (k l : ℕ) (s t : Option Crossing) → off_grid g k l s ≡ false → off_grid g l k t ≡ false → told_same s t ≡ true
 told_if g k l None t a b = refl
 told_if g k l (Some s) None a b = refl
 told_if g k l (Some s) (Some t) a b =
-    same_two_from s (swapped t) (same_two-true s (two_on g k l) (not-false _ a) ∙ sym (ap swapped (same_two-true t (two_on g l k) (not-false _ b))))
+    same_crossing_from s (swapped t) (same_crossing-true s (crossing_on g k l) (not-false _ a) ∙ sym (ap swapped (same_crossing-true t (crossing_on g l k) (not-false _ b))))
 
-settled_if : (g : List (List Fp)) (n k l : ℕ) (cs ct : ℕ → Option Two) → 1 ≤ k → k ≤ n → 1 ≤ l → l ≤ n → (b c : Bool) →
+settled_if : (g : List (List Fp)) (n k l : ℕ) (cs ct : ℕ → Option Crossing) → 1 ≤ k → k ≤ n → 1 ≤ l → l ≤ n → (b c : Bool) →
     anyone n (λ m. off_grid g k m (cs m)) ≡ b → anyone n (λ m. off_grid g l m (ct m)) ≡ c →
     settled (shown_if b (pair_on g k)) (shown_if c (pair_on g l)) (cs l) (ct k) ≡ true
 settled_if g n k l cs ct k1 kn l1 ln true c eb ec = refl

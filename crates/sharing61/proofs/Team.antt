@@ -4,7 +4,8 @@ use Rattle.algebra61.specs.Field.{Fp, Prime, fe}
 use Rattle.algebra61.specs.Poly.{Outside, Distinct}
 use Rattle.algebra61.specs.Grid.{Holder, Facing, holder_points}
 use Rattle.algebra61.proofs.Ring.{num-fe_small}
-use Rattle.sharing61.specs.Rules.{Pair, Two, at_point, swapped}
+use Rattle.sharing61.specs.Rules.{Pair, at_point, swapped}
+use Rattle.sharing61.specs.declared.Crossing.{Crossing}
 use Rattle.sharing61.specs.Instance.{Instance, held}
 use Rattle.algebra61.proofs.Further.{FacedBy}
 use Rattle.sharing61.proofs.Count.{picked, picked_one}
@@ -77,8 +78,8 @@ Agrees i j p k = at_point p k ≡ swapped (at_point (held i k) j)
 
 pub facing_team : (i : Instance) (j : ℕ) (p : Pair) (ks : List ℕ) → Each (Agrees i j p) ks → Facing (member_at j p) (team i ks)
 facing_team i j p [] e = tt
-facing_team i j p (k ∷ ks) e = (sym (ap (λ (t : Two). t.v) e.0), facing_team i j p ks e.1)
+facing_team i j p (k ∷ ks) e = (sym (ap (λ (t : Crossing). t.column) e.0), facing_team i j p ks e.1)
 
 pub faced_team : (i : Instance) (j : ℕ) (p : Pair) (ks : List ℕ) → Each (Agrees i j p) ks → FacedBy (member_at j p) (team i ks)
 faced_team i j p [] e = tt
-faced_team i j p (k ∷ ks) e = (sym (ap (λ (t : Two). t.u) e.0), faced_team i j p ks e.1)
+faced_team i j p (k ∷ ks) e = (sym (ap (λ (t : Crossing). t.row) e.0), faced_team i j p ks e.1)

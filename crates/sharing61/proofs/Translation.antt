@@ -8,11 +8,12 @@ use Rattle.algebra61.specs.Grid.{row, column, grid_at, Degree, add_product}
 use Rattle.algebra61.proofs.Ring.{mul_zero, zero_mul, add_zero, one_mul}
 use Rattle.algebra61.proofs.Grid.{eval-column}
 use Rattle.algebra61.proofs.Ext.{at_add_product}
-use Rattle.sharing61.specs.Rules.{Pair, Two, at_point, swapped, same_two, pair_on, two_on, unless_same, complaint_of, off_grid, shown_if}
+use Rattle.sharing61.specs.Rules.{Pair, at_point, swapped, same_crossing, pair_on, crossing_on, unless_same, complaint_of, off_grid, shown_if}
+use Rattle.sharing61.specs.declared.Crossing.{Crossing}
 use Rattle.sharing61.specs.Instance.{Dealer, Honest, Instance, crossing_pair, complaint, shown, vote, share}
 use Rattle.sharing61.specs.Agreement.{Proper, HonestReceiver, Short, Deals}
 use Rattle.sharing61.specs.Translation.{translated, Hides, InRange, OtherChoice}
-use Rattle.sharing61.proofs.Count.{anyone_same, same_two_from}
+use Rattle.sharing61.proofs.Count.{anyone_same, same_crossing_from}
 use Rattle.sharing61.proofs.Values.{at_pair_on, eval-poly, poly_same, short_on}
 use Rattle.sharing61.proofs.Votes.{complaint_is}
 use Rattle.sharing61.proofs.Own.{held_own, shown_own, complaint_up, hidden_own, yes_own, accepted_own, honest_dealer}
@@ -24,11 +25,11 @@ at_keeps_x g u h x y e = at_add_product g u h x y ∙ ap (λ v. grid_at g x y +�
 at_keeps_y : (g : List (List Fp)) (u h : List Fp) (x y : Fp) → eval h y ≡ zeroₚ → grid_at (add_product g u h) x y ≡ grid_at g x y
 at_keeps_y g u h x y e = at_add_product g u h x y ∙ ap (λ v. grid_at g x y +ₚ eval u x *ₚ v) e ∙ simp (mul_zero, add_zero)
 
-two_keeps : (g : List (List Fp)) (u h : List Fp) (j k : ℕ) → eval u (fe k) ≡ zeroₚ → eval h (fe k) ≡ zeroₚ → two_on (add_product g u h) j k ≡ two_on g j k
+two_keeps : (g : List (List Fp)) (u h : List Fp) (j k : ℕ) → eval u (fe k) ≡ zeroₚ → eval h (fe k) ≡ zeroₚ → crossing_on (add_product g u h) j k ≡ crossing_on g j k
 two_keeps g u h j k eu eh =
-    ap₂ (λ (a b : Fp). let t : Two = record { u = a; v = b } in t) (at_keeps_x g u h (fe k) (fe j) eu) (at_keeps_y g u h (fe j) (fe k) eh)
+    ap₂ (λ (a b : Fp). let t : Crossing = record { row = a; column = b } in t) (at_keeps_x g u h (fe k) (fe j) eu) (at_keeps_y g u h (fe j) (fe k) eh)
 
-two_keeps_down : (g : List (List Fp)) (u h : List Fp) (j k : ℕ) → eval u (fe j) ≡ zeroₚ → eval h (fe j) ≡ zeroₚ → two_on (add_product g u h) j k ≡ two_on g j k
+two_keeps_down : (g : List (List Fp)) (u h : List Fp) (j k : ℕ) → eval u (fe j) ≡ zeroₚ → eval h (fe j) ≡ zeroₚ → crossing_on (add_product g u h) j k ≡ crossing_on g j k
 two_keeps_down g u h j k eu eh = ap swapped (two_keeps g u h k j eu eh)
 
 pair_keeps : (d : ℕ) (g : List (List Fp)) (u h : List Fp) (j : ℕ) → d + 1 < Prime → Degree d g → Degree d (add_product g u h) → eval u (fe j) ≡ zeroₚ → eval h (fe j) ≡ zeroₚ →
@@ -44,15 +45,15 @@ pair_keeps d g u h j small dg dm eu eh =
     (λ y. eval-poly (column m (fe j)) y ∙ eval-column m (fe j) y ∙ at_keeps_x g u h (fe j) y eu ∙ sym (eval-column g (fe j) y) ∙ sym (eval-poly (column g (fe j)) y)))
 
 -- ---- complaints
-none_of : (g : List (List Fp)) (j k : ℕ) (b : Bool) → same_two (two_on g k j) (swapped (two_on g j k)) ≡ b → unless_same b (two_on g j k) ≡ None
+none_of : (g : List (List Fp)) (j k : ℕ) (b : Bool) → same_crossing (crossing_on g k j) (swapped (crossing_on g j k)) ≡ b → unless_same b (crossing_on g j k) ≡ None
 none_of g j k true e = refl
-none_of g j k false e = let h : same_two (two_on g k j) (two_on g k j) ≡ true = same_two_from (two_on g k j) (two_on g k j) refl in let f : true ≡ false = sym h ∙ e in cc
+none_of g j k false e = let h : same_crossing (crossing_on g k j) (crossing_on g k j) ≡ true = same_crossing_from (crossing_on g k j) (crossing_on g k j) refl in let f : true ≡ false = sym h ∙ e in cc
 
 -- honest receivers of an honest dealer do not complain of each other
 quiet : (i : Instance) (g : List (List Fp)) (j k : ℕ) → i.dealer ≡ Honest g → i.down j ≡ false → i.down k ≡ false → complaint i j k ≡ None
 quiet i g j k e uj uk =
     complaint_is i j k uj uk
-    ∙ ap₂ (λ (s t : Two). unless_same (same_two s (swapped t)) t) (ap (λ p. at_point p j) (held_own i g k e) ∙ at_pair_on g k j) (ap (λ p. at_point p k) (held_own i g j e) ∙ at_pair_on g j k)
+    ∙ ap₂ (λ (s t : Crossing). unless_same (same_crossing s (swapped t)) t) (ap (λ p. at_point p j) (held_own i g k e) ∙ at_pair_on g k j) (ap (λ p. at_point p k) (held_own i g j e) ∙ at_pair_on g j k)
     ∙ none_of g j k _ refl
 
 crossing_down : (i : Instance) (k j : ℕ) → i.down k ≡ true → crossing_pair i k j ≡ i.crossed k j
@@ -76,9 +77,9 @@ complaints_stay i g u h e hd j k rj rk false true dj dk =
     ∙ sym (complaint_up i j k dj)
 
 -- ---- reveals
-off_two : (g m : List (List Fp)) (j k : ℕ) (o : Option Two) → two_on m j k ≡ two_on g j k → off_grid m j k o ≡ off_grid g j k o
-off_two g m j k None e = refl
-off_two g m j k (Some t) e = ap (λ s. not (same_two t s)) e
+off_crossing : (g m : List (List Fp)) (j k : ℕ) (o : Option Crossing) → crossing_on m j k ≡ crossing_on g j k → off_grid m j k o ≡ off_grid g j k o
+off_crossing g m j k None e = refl
+off_crossing g m j k (Some t) e = ap (λ s. not (same_crossing t s)) e
 
 reveals_stay : (d : ℕ) (i : Instance) (g : List (List Fp)) (u h : List Fp) → i.dealer ≡ Honest g → d + 1 < Prime → Degree d g → Degree d (add_product g u h) → Hides i u h →
     (j : ℕ) → InRange i j → (b : Bool) → i.down j ≡ b → shown (translated i g u h) j ≡ shown i j
@@ -91,7 +92,7 @@ reveals_stay d i g u h e small dg dm hd j rj true dj =
     shown_own (translated i g u h) m j refl
     ∙ ap₂ shown_if
     (anyone_same i.receivers _ (λ k. off_grid g j k (complaint i j k))
-    (λ k a b. off_two g m j k (complaint (translated i g u h) j k) (two_keeps_down g u h j k eu eh) ∙ ap (off_grid g j k) (complaints_stay i g u h e hd j k rj (a, b) true (i.down k) dj refl)))
+    (λ k a b. off_crossing g m j k (complaint (translated i g u h) j k) (two_keeps_down g u h j k eu eh) ∙ ap (off_grid g j k) (complaints_stay i g u h e hd j k rj (a, b) true (i.down k) dj refl)))
     (pair_keeps d g u h j small dg dm eu eh)
     ∙ sym (shown_own i g j e)
 

@@ -8,9 +8,10 @@ use Rattle.algebra61.specs.Grid.{row, column, Degree, OnGrid}
 use Rattle.algebra61.proofs.Trim.{eval-trim, length-trim}
 use Rattle.algebra61.proofs.Ext.{same_values}
 use Rattle.algebra61.proofs.Grid.{length-column, eval-column}
-use Rattle.sharing61.specs.Rules.{Pair, Two, at_point, pair_on}
+use Rattle.sharing61.specs.Rules.{Pair, at_point, pair_on}
+use Rattle.sharing61.specs.declared.Crossing.{Crossing}
 use Rattle.sharing61.specs.Agreement.{Short}
-use Rattle.sharing61.specs.Rules.{two_on}
+use Rattle.sharing61.specs.Rules.{crossing_on}
 
 -- ---- the polynomial of a list
 pub coeffs-poly : (l : List Fp) → (poly l).coeffs ≡ trim l
@@ -32,9 +33,9 @@ length-row : (g : List (List Fp)) (x : Fp) → length (row g x) ≡ length g
 length-row [] x = refl
 length-row (p ∷ ps) x = ap suc (length-row ps x)
 
-pub at_pair_on : (g : List (List Fp)) (j k : ℕ) → at_point (pair_on g j) k ≡ two_on g j k
+pub at_pair_on : (g : List (List Fp)) (j k : ℕ) → at_point (pair_on g j) k ≡ crossing_on g j k
 at_pair_on g j k =
-    ap₂ (λ (a b : Fp). let t : Two = record { u = a; v = b } in t)
+    ap₂ (λ (a b : Fp). let t : Crossing = record { row = a; column = b } in t)
     (eval-poly (row g (fe j)) (fe k)) (eval-poly (column g (fe j)) (fe k) ∙ eval-column g (fe j) (fe k))
 
 pub short_on : (d : ℕ) (g : List (List Fp)) (j : ℕ) → Degree d g → Short d (pair_on g j)

@@ -2,10 +2,11 @@
 use Rattle.std.proofs.Common.{◌≡◌, ℕ, ◌≤◌, Bool, true, false, Option, Some, None, refl, sym, ap, ap₂, ◌∙◌, is_none}
 use Rattle.std.proofs.lemmas.Bool.{and_parts, cond-false}
 use Rattle.sharing61.specs.Count.{everyone}
-use Rattle.sharing61.specs.Rules.{Pair, Two, at_point, swapped, same_two, unless_same, complaint_of, told_same, settled, fits, votes_yes}
+use Rattle.sharing61.specs.Rules.{Pair, at_point, swapped, same_crossing, unless_same, complaint_of, told_same, settled, fits, votes_yes}
+use Rattle.sharing61.specs.declared.Crossing.{Crossing}
 use Rattle.sharing61.specs.Instance.{Instance, held, crossing_pair, complaint, shown, vote}
 use Rattle.sharing61.specs.Agreement.{HonestReceiver}
-use Rattle.sharing61.proofs.Count.{everyone_at, same_two-true}
+use Rattle.sharing61.proofs.Count.{everyone_at, same_crossing-true}
 
 -- ---- what one vote says
 pub vote_is : (i : Instance) (j : ℕ) → i.down j ≡ false → vote i j ≡ votes_yes i.receivers (complaint i) (shown i) j (held i j)
@@ -36,14 +37,14 @@ yes_says i y s v =
 
 -- ---- two receivers that are not revealed agree
 pub complaint_is : (i : Instance) (j k : ℕ) → i.down j ≡ false → i.down k ≡ false →
-    complaint i j k ≡ unless_same (same_two (at_point (held i k) j) (swapped (at_point (held i j) k))) (at_point (held i j) k)
+    complaint i j k ≡ unless_same (same_crossing (at_point (held i k) j) (swapped (at_point (held i j) k))) (at_point (held i j) k)
 unfolding complaint crossing_pair
 complaint_is i j k uj uk = cond-false (i.down j) _ _ uj ∙ ap (complaint_of (at_point (held i j) k)) (cond-false (i.down k) _ _ uk)
 
-agree_cases : (b c : Bool) (s t : Two) → same_two t (swapped s) ≡ b → same_two s (swapped t) ≡ c → told_same (unless_same b s) (unless_same c t) ≡ true → s ≡ swapped t
-agree_cases true c s t eb ec h = sym (ap swapped (same_two-true t (swapped s) eb))
-agree_cases false true s t eb ec h = same_two-true s (swapped t) ec
-agree_cases false false s t eb ec h = same_two-true s (swapped t) h
+agree_cases : (b c : Bool) (s t : Crossing) → same_crossing t (swapped s) ≡ b → same_crossing s (swapped t) ≡ c → told_same (unless_same b s) (unless_same c t) ≡ true → s ≡ swapped t
+agree_cases true c s t eb ec h = sym (ap swapped (same_crossing-true t (swapped s) eb))
+agree_cases false true s t eb ec h = same_crossing-true s (swapped t) ec
+agree_cases false false s t eb ec h = same_crossing-true s (swapped t) h
 
 pub agree_open : (i : Instance) (y : ℕ) → Yes i y → (j k : ℕ) → HonestReceiver i j → HonestReceiver i k → shown i j ≡ None → shown i k ≡ None →
     at_point (held i j) k ≡ swapped (at_point (held i k) j)
@@ -57,4 +58,4 @@ agree_open i y w j k sj sk nj nk =
 pub agree_shown : (i : Instance) (y : ℕ) → Yes i y → (k : ℕ) (p : Pair) → HonestReceiver i k → shown i k ≡ Some p → at_point p y ≡ swapped (at_point (held i y) k)
 agree_shown i y w k p s e =
     let at = w.fit k s.from s.to in
-    same_two-true (at_point p y) (swapped (at_point (held i y) k)) (rw e at at)
+    same_crossing-true (at_point p y) (swapped (at_point (held i y) k)) (rw e at at)

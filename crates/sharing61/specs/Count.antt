@@ -3,15 +3,15 @@ use Rattle.std.specs.Prelude.{ℕ, zero, suc, ◌+◌, Bool, true, false, ◌&&�
 
 -- the test holds of every number from 1 to n
 abbrev pub everyone : ℕ → (ℕ → Bool) → Bool
-everyone zero f = true
-everyone (suc n) f = everyone n f && f (suc n)
+everyone zero test = true
+everyone (suc count) test = everyone count test && test (suc count)
 
 -- the test holds of some number from 1 to n
 abbrev pub anyone : ℕ → (ℕ → Bool) → Bool
-anyone zero f = false
-anyone (suc n) f = anyone n f || f (suc n)
+anyone zero test = false
+anyone (suc count) test = anyone count test || test (suc count)
 
 -- of how many numbers from 1 to n it holds
 abbrev pub how_many : ℕ → (ℕ → Bool) → ℕ
-how_many zero f = 0
-how_many (suc n) f = how_many n f + cond (f (suc n)) 1 0
+how_many zero test = 0
+how_many (suc count) test = how_many count test + cond (test (suc count)) 1 0

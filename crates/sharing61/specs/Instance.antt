@@ -3,7 +3,8 @@
 use Rattle.std.specs.Prelude.{ℕ, Bool, cond, List, Option, Some}
 use Rattle.algebra61.specs.Field.{Fp, zeroₚ}
 use Rattle.algebra61.specs.Poly.{eval}
-use Rattle.sharing61.specs.Rules.{Pair, Two, at_point, pair_on, complaint_of, reveal_of, votes_yes, enough, kept_of}
+use Rattle.sharing61.specs.Rules.{Pair, at_point, pair_on, complaint_of, reveal_of, votes_yes, enough, kept_of}
+use Rattle.sharing61.specs.declared.Crossing.{Crossing}
 
 -- an honest dealer has a grid; a faulty one deals any pair to each receiver, and reveals any pairs. What is proved of it
 -- asks that their polynomials have the degree of the sharing: messages with more coefficients are not read
@@ -19,46 +20,46 @@ pub record Instance : Type 0 where
   pub bound : ℕ
   pub down : ℕ → Bool
   pub dealer : Dealer
-  pub crossed : ℕ → ℕ → Option Two
-  pub listed : ℕ → ℕ → Option Two
+  pub crossed : ℕ → ℕ → Option Crossing
+  pub listed : ℕ → ℕ → Option Crossing
   pub voted : ℕ → Bool
 
 abbrev pub held_from : Dealer → ℕ → Pair
-held_from (Honest g) j = pair_on g j
-held_from (Faulty dealt shown) j = dealt j
+held_from (Honest grid) receiver = pair_on grid receiver
+held_from (Faulty dealt shown) receiver = dealt receiver
 
 -- the pair that receiver j holds after the dealing
 unfoldable pub held : Instance → ℕ → Pair
-held i j = held_from i.dealer j
+held instance receiver = held_from instance.dealer receiver
 
 -- the crossing pair from k to j
-unfoldable pub crossing_pair : Instance → ℕ → ℕ → Option Two
-crossing_pair i k j = cond (i.down k) (i.crossed k j) (Some (at_point (held i k) j))
+unfoldable pub crossing_pair : Instance → ℕ → ℕ → Option Crossing
+crossing_pair instance sender receiver = cond (instance.down sender) (instance.crossed sender receiver) (Some (at_point (held instance sender) receiver))
 
 -- what j complains of k
-unfoldable pub complaint : Instance → ℕ → ℕ → Option Two
-complaint i j k = cond (i.down j) (i.listed j k) (complaint_of (at_point (held i j) k) (crossing_pair i k j))
+unfoldable pub complaint : Instance → ℕ → ℕ → Option Crossing
+complaint instance receiver against = cond (instance.down receiver) (instance.listed receiver against) (complaint_of (at_point (held instance receiver) against) (crossing_pair instance against receiver))
 
 abbrev pub shown_from : Instance → Dealer → ℕ → Option Pair
-shown_from i (Honest g) j = reveal_of i.receivers g (complaint i j) j
-shown_from i (Faulty dealt shown) j = shown j
+shown_from instance (Honest grid) receiver = reveal_of instance.receivers grid (complaint instance receiver) receiver
+shown_from instance (Faulty dealt shown) receiver = shown receiver
 
 -- the revealed pair of j
 unfoldable pub shown : Instance → ℕ → Option Pair
-shown i j = shown_from i i.dealer j
+shown instance receiver = shown_from instance instance.dealer receiver
 
 -- whether j votes yes
 unfoldable pub vote : Instance → ℕ → Bool
-vote i j = cond (i.down j) (i.voted j) (votes_yes i.receivers (complaint i) (shown i) j (held i j))
+vote instance receiver = cond (instance.down receiver) (instance.voted receiver) (votes_yes instance.receivers (complaint instance) (shown instance) receiver (held instance receiver))
 
 -- whether the instance is accepted
 unfoldable pub accepted : Instance → Bool
-accepted i = enough i.receivers i.bound (vote i)
+accepted instance = enough instance.receivers instance.bound (vote instance)
 
 -- the pair of j in the end
 unfoldable pub kept : Instance → ℕ → Pair
-kept i j = kept_of (accepted i) (shown i j) (held i j)
+kept instance receiver = kept_of (accepted instance) (shown instance receiver) (held instance receiver)
 
 -- the share of j: its row's value at 0
 abbrev pub share : Instance → ℕ → Fp
-share i j = eval (kept i j).row.coeffs zeroₚ
+share instance receiver = eval (kept instance receiver).row.coeffs zeroₚ

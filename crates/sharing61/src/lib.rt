@@ -8,3 +8,14 @@
 #![tactic(auto)]
 
 pub mod laws;
+
+use field61::Fe;
+
+/// The two values at the point where a row and a column cross.
+#[derive(Clone, Copy, Debug, Drop, PartialEq, Eq)]
+pub struct Crossing {
+    /// The value of a row.
+    pub row: Fe,
+    /// The value of a column.
+    pub column: Fe,
+}

@@ -43,7 +43,8 @@ impl From<OutOfMemory> for OpenFault {
 pub fn syndrome_share(alloc: Global, shares: &[Fe], bound: u32) -> Result<FeList, OutOfMemory>
     requires some { bound + 2 ≤ length shares.now }
     requires few { length shares.now ≤ 30 }
-    ensures { IfOk result (λ l. l ≡ syndrome_of (length shares.now) (length shares.now - bound - 1) (entry shares.now)) }
+    ensures { IfOk result
+        (λ l. l ≡ syndrome_of (length shares.now) (length shares.now - bound - 1) (entry shares.now)) }
 {
     syndrome(alloc, shares, bound)
 }

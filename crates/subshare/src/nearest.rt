@@ -56,7 +56,8 @@ fn is_right(poly: &Poly, values: &[Option<Fe>]) -> bool
 // at most `degree` values are there. Its cost is quadratic in the degree.
 fn agreed(alloc: Global, values: &[Option<Fe>], degree: u32) -> Result<Option<Poly>, OutOfMemory>
     requires { length values.now ≤ 30 }
-    ensures { IfOk result (λ o. MatchOption o ((p : Polynomial) → Agree degree values.now p → ⊥) (λ p. Agree degree values.now p)) }
+    ensures { IfOk result
+        (λ o. MatchOption o ((p : Polynomial) → Agree degree values.now p → ⊥) (λ p. Agree degree values.now p)) }
 {
     let count = degree as usize + 1;
     let list = first_present(alloc, values, count)?;
@@ -81,7 +82,9 @@ pub fn nearest_to(
 ) -> Result<Option<Poly>, OutOfMemory>
     requires few { length values.now ≤ 30 }
     requires low { degree ≤ 14 }
-    ensures { IfOk result (λ o. MatchOption o ((p : Polynomial) → IsNearest degree values.now p → ⊥) (λ p. IsNearest degree values.now p)) }
+    ensures { IfOk result
+        (λ o. MatchOption o ((p : Polynomial) → IsNearest degree values.now p → ⊥)
+        (λ p. IsNearest degree values.now p)) }
 {
     let agreed = agreed(alloc, values, degree)?;
     if let Some(poly) = agreed {

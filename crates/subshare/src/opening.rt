@@ -73,7 +73,9 @@ fn open_value(
     requires all { length posts.now ≡ seats setting.now }
     requires lane { lane ≤ 4 }
     requires place { place < setting.now.checks }
-    ensures { IfOk result (λ o. MatchOption o (IsUnopened setting.now (post_of setting.now posts.now) lane place) (IsOpened setting.now (post_of setting.now posts.now) lane place)) }
+    ensures { IfOk result
+        (λ o. MatchOption o (IsUnopened setting.now (post_of setting.now posts.now) lane place)
+        (IsOpened setting.now (post_of setting.now posts.now) lane place)) }
 {
     let checks = setting.checks();
     let k = (lane * checks + place) as usize;

@@ -15,7 +15,7 @@ mod tests;
 
 pub use driver::{Driven, drive};
 pub use masks::{all_in, in_mask, mask_with};
-pub use messages::{Complaint, Crossing, Heard, Post, Reveal, Ring, Say};
+pub use messages::{Complaint, Heard, Post, Reveal, Ring, Say};
 pub use mind::Mind;
 pub use part::Part;
 pub use rows::{ComplaintList, PostList, RevealList, RingList, VoteList};

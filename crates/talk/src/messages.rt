@@ -8,15 +8,6 @@ use field61::{Fe, FeList};
 use lists::{OutOfMemory, TryCopy};
 use std::alloc::Global;
 
-/// The two values at the point where a row and a column cross.
-#[derive(Clone, Copy, Debug, Drop, PartialEq, Eq)]
-pub struct Crossing {
-    /// The value of a row.
-    pub row: Fe,
-    /// The value of a column.
-    pub column: Fe,
-}
-
 /// A receiver's public complaint of another receiver, in one instance: the crossing points that came
 /// from `against` don't fit the pair that the complaining receiver holds. A receiver whose own row and
 /// column don't cross complains of itself.
@@ -92,18 +83,6 @@ pub struct Heard {
     pub posts: PostList,
     /// The ring messages to this mind, by seat.
     pub rings: RingList,
-}
-
-impl Complaint {
-    /// The two values that the complaining receiver tells.
-    pub fn crossing(&self) -> Crossing
-        ensures { result ≡ record { row = self.now.u; column = self.now.v } }
-    {
-        Crossing {
-            row: self.u,
-            column: self.v,
-        }
-    }
 }
 
 impl TryCopy for Complaint {

@@ -3,7 +3,8 @@ use Rattle.std.proofs.Common.{◌≡◌, ℕ, zero, suc, ◌+◌, ◌-◌, ◌�
 use Rattle.std.proofs.lemmas.Bool.Decides.{nat_tests}
 use Rattle.std.proofs.lemmas.List.FromFn.{get_or-map-range_with_len}
 use Rattle.sharing61.specs.Count.{everyone}
-use Rattle.sharing61.specs.Rules.{Pair, Two, same, told_same, settled}
+use Rattle.sharing61.specs.Rules.{Pair, same, told_same, settled}
+use Rattle.sharing61.specs.declared.Crossing.{Crossing}
 use Rattle.talk.specs.declared.messages.Post.{Post}
 use Rattle.talk.specs.Shape.{Shape}
 use Rattle.plays.specs.Said.{places}
@@ -51,14 +52,14 @@ both_swap true false = refl
 both_swap false true = refl
 both_swap false false = refl
 
-told_swaps : (s t : Option Two) → told_same s t ≡ told_same t s
+told_swaps : (s t : Option Crossing) → told_same s t ≡ told_same t s
 told_swaps None None = refl
 told_swaps None (Some t) = refl
 told_swaps (Some s) None = refl
 told_swaps (Some s) (Some t) =
-    both_swap (same s.u t.v) (same s.v t.u) ∙ ap₂ (λ a b. a && b) (eqb_swaps s.v.num t.u.num) (eqb_swaps s.u.num t.v.num)
+    both_swap (same s.row t.column) (same s.column t.row) ∙ ap₂ (λ a b. a && b) (eqb_swaps s.column.num t.row.num) (eqb_swaps s.row.num t.column.num)
 
-where_swaps : (a b : Bool) (s t : Option Two) → settled_where a b s t ≡ settled_where b a t s
+where_swaps : (a b : Bool) (s t : Option Crossing) → settled_where a b s t ≡ settled_where b a t s
 where_swaps true true s t = told_swaps s t
 where_swaps true false s t = refl
 where_swaps false true s t = refl
@@ -69,7 +70,7 @@ here_swaps s third hidden i k l =
     where_swaps (get_or hidden (k - 1) false) (get_or hidden (l - 1) false) (heard_complaint s third i k l) (heard_complaint s third i l k)
 
 -- ---- with the revealed pairs
-where_is : (p q : Option Pair) (s t : Option Two) → settled_where (is_none p) (is_none q) s t ≡ settled p q s t
+where_is : (p q : Option Pair) (s t : Option Crossing) → settled_where (is_none p) (is_none q) s t ≡ settled p q s t
 where_is None None s t = refl
 where_is None (Some q) s t = refl
 where_is (Some p) None s t = refl

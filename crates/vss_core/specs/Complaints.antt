@@ -1,17 +1,16 @@
 -- Complaints laid out for look-up, in tables with a row of 16 cells for each instance and a column for each receiver.
 use Rattle.std.specs.Prelude.{◌≡◌, ℕ, ◌+◌, ◌*◌, ◌<◌, ◌-◌, Bool, true, false, List, [], length, get_or, Option, None}
-use Rattle.sharing61.specs.Rules.{Two, told_same}
-use Rattle.talk.specs.declared.messages.Crossing.{Crossing}
+use Rattle.sharing61.specs.Rules.{told_same}
+use Rattle.sharing61.specs.declared.Crossing.{Crossing}
 use Rattle.talk.specs.declared.messages.Post.{Post}
 use Rattle.talk.specs.declared.messages.Post.TheVariants.{Quiet}
 use Rattle.talk.specs.Shape.{Shape}
 use Rattle.plays.specs.Read.{listed_in}
 use Rattle.plays.specs.Seat.{heard_complaint}
-use Rattle.vss_core.specs.States.{two_or}
 
 -- what stands in the cell of instance i and receiver k
-abbrev pub cell_of : List (Option Crossing) → ℕ → ℕ → Option Two
-cell_of cells i k = two_or (get_or cells (i * 16 + k) None)
+abbrev pub cell_of : List (Option Crossing) → ℕ → ℕ → Option Crossing
+cell_of cells instance other = get_or cells (instance * 16 + other) None
 
 -- each cell that is there has what the post tells of its instance and receiver
 pub record LaidOut (cells : List (Option Crossing)) (post : Post) : Type 0 where
@@ -23,12 +22,12 @@ pub record AllLaidOut (tables : List (List (Option Crossing))) (posts : List Pos
   pub each : (k : ℕ) → LaidOut (get_or tables k []) (get_or posts k Quiet)
 
 -- two receivers are settled where one of them is revealed, or where they tell the same
-abbrev pub settled_where : Bool → Bool → Option Two → Option Two → Bool
-settled_where true true s t = told_same s t
-settled_where true false s t = true
-settled_where false b s t = true
+abbrev pub settled_where : Bool → Bool → Option Crossing → Option Crossing → Bool
+settled_where true true mine theirs = told_same mine theirs
+settled_where true false mine theirs = true
+settled_where false hidden mine theirs = true
 
 -- the same of receivers k and l in instance i, with a list of which receivers are hidden, by their index less 1
 abbrev pub settled_here : Shape → List Post → List Bool → ℕ → ℕ → ℕ → Bool
-settled_here s third hidden i k l =
-    settled_where (get_or hidden (k - 1) false) (get_or hidden (l - 1) false) (heard_complaint s third i k l) (heard_complaint s third i l k)
+settled_here shape third hidden instance receiver other =
+    settled_where (get_or hidden (receiver - 1) false) (get_or hidden (other - 1) false) (heard_complaint shape third instance receiver other) (heard_complaint shape third instance other receiver)

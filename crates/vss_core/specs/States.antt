@@ -4,9 +4,9 @@ use Rattle.std.specs.Coded.{Coded, code_by, coded×, coded_list, coded_ℕ}
 use Rattle.std.proofs.Common.{Bor}
 use Rattle.algebra61.specs.Field.{Fp, fp_code}
 use Rattle.bivar61.specs.Grids.{IsGrid}
-use Rattle.sharing61.specs.Rules.{Pair, Two}
+use Rattle.sharing61.specs.Rules.{Pair}
+use Rattle.sharing61.specs.declared.Crossing.{Crossing}
 use Rattle.talk.specs.declared.messages.Complaint.{Complaint}
-use Rattle.talk.specs.declared.messages.Crossing.{Crossing}
 use Rattle.talk.specs.declared.messages.Reveal.{Reveal}
 use Rattle.talk.specs.declared.messages.Post.{Post}
 use Rattle.talk.specs.declared.messages.Ring.{Ring}
@@ -19,6 +19,7 @@ use Rattle.plays.specs.Said.{points_up_to, reveal_item}
 use Rattle.plays.specs.Seat.{ring_at, heard_complaint}
 use Rattle.sharing61.specs.Rules.{at_point, reveal_of}
 use Rattle.std.specs.List.{flat_map}
+use Rattle.sizes.specs.Instances.{instance_at}
 
 -- a dealer: its setting, its index, and its grids, lane by lane
 pub record DealerState : Type 0 where
@@ -76,10 +77,10 @@ dealer_code =
 
 -- me is one of the setting's dealers, or of its receivers
 abbrev pub IsDealer : Shape → ℕ → Type 0
-IsDealer s me = (1 ≤ me) × (me ≤ s.dealers)
+IsDealer shape me = (1 ≤ me) × (me ≤ shape.dealers)
 
 abbrev pub IsReceiver : Shape → ℕ → Type 0
-IsReceiver s me = (1 ≤ me) × (me ≤ s.receivers)
+IsReceiver shape me = (1 ≤ me) × (me ≤ shape.receivers)
 
 -- one grid for each of the five lanes, all of degree d
 pub record FiveGrids (d : ℕ) (grids : List (List (List Fp))) : Type 0 where
@@ -99,15 +100,7 @@ pub record RoundRings (s : Shape) (round me : ℕ) (rings : List Ring) : Type 0 
 -- the grids of a receiver's own dealer, none where it has none
 abbrev pub own_grids : Option (Bor DealerState) → List (List (List Fp))
 own_grids None = []
-own_grids (Some d) = d.now.grids
-
--- the two values at a crossing, as the rules of one instance have them
-abbrev pub two_of : Crossing → Two
-two_of c = record { u = c.row; v = c.column }
-
-abbrev pub two_or : Option Crossing → Option Two
-two_or None = None
-two_or (Some c) = Some (two_of c)
+own_grids (Some dealer) = dealer.now.grids
 
 -- a crossing is stored as its two values
 abbrev pub crossing_code : Coded Crossing
@@ -115,21 +108,21 @@ crossing_code = code_by _ (coded× fp_code fp_code) (λ c. (c.row, c.column)) (�
 
 -- a dealer's message of degree d has the coefficients of five rows and columns
 abbrev pub DealtLong : ℕ → Ring → Type 0
-DealtLong d Nothing = Unit {0}
-DealtLong d (Dealt xs) = length xs ≡ 10 * (d + 1)
-DealtLong d (Cross xs) = Unit {0}
+DealtLong degree Nothing = Unit {0}
+DealtLong degree (Dealt xs) = length xs ≡ 10 * (degree + 1)
+DealtLong degree (Cross xs) = Unit {0}
 
 -- a message of the second round has two elements for each instance
 abbrev pub CrossLong : ℕ → Ring → Type 0
-CrossLong m Nothing = Unit {0}
-CrossLong m (Dealt xs) = Unit {0}
-CrossLong m (Cross xs) = length xs ≡ 2 * m
+CrossLong count Nothing = Unit {0}
+CrossLong count (Dealt xs) = Unit {0}
+CrossLong count (Cross xs) = length xs ≡ 2 * count
 
 -- the crossing pair that me heard of k in instance i, of which it holds the pair; its own for k = me
-abbrev pub cross_of : Shape → ℕ → Pair → List Ring → ℕ → ℕ → Option Two
-cross_of s me pair rings i k = cond (eqb k me) (Some (at_point pair me)) (crossed_in i (ring_at rings (seat_of s k)))
+abbrev pub cross_of : Shape → ℕ → Pair → List Ring → ℕ → ℕ → Option Crossing
+cross_of shape me pair rings instance other = cond (eqb other me) (Some (at_point pair me)) (crossed_in instance (ring_at rings (seat_of shape other)))
 
 -- the reveals of dealer me in a lane of which it has the grid, for the receivers 1 to n
 abbrev pub lane_items : Shape → ℕ → List (List Fp) → List Post → ℕ → ℕ → List Reveal
-lane_items s me grid third lane n =
-    flat_map (λ j. reveal_item s.degree lane j (reveal_of s.receivers grid (heard_complaint s third ((me - 1) * 5 + lane) j) j)) (points_up_to n)
+lane_items shape me grid third lane count =
+    flat_map (λ j. reveal_item shape.degree lane j (reveal_of shape.receivers grid (heard_complaint shape third (instance_at me lane) j) j)) (points_up_to count)

@@ -65,7 +65,17 @@ impl Complained {
         posts: &PostList,
     ) -> Result<Revealed, StepError<Complained>>
         requires { RoundPosts self.shape 4 posts.now }
-        ensures { MatchResult result (λ r. r ≡ record { shape = self.shape; me = self.me; pairs = self.pairs; fourth = posts.now; votes = vote_list (instances self.shape) (says_yes self.shape self.me self.pairs self.third posts.now) }) (λ k. k.state ≡ self) }
+        ensures { MatchResult result
+            (λ r. r
+            ≡ record {
+              shape = self.shape;
+              me = self.me;
+              pairs = self.pairs;
+              fourth = posts.now;
+              votes = vote_list
+                  (instances self.shape) (says_yes self.shape self.me self.pairs self.third posts.now);
+            })
+            (λ k. k.state ≡ self) }
     {
         let Ok(votes) = votes_of(
             alloc,

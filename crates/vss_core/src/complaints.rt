@@ -5,14 +5,14 @@ ghost use Rattle.plays.specs.Read.{complaint_at, listed_in};
 ghost use Rattle.talk.specs.Basics.{first_of};
 ghost use Rattle.plays.specs.Seat.{post_at};
 ghost use Rattle.talk.specs.declared.messages.Post.{Post};
-ghost use Rattle.vss_core.specs.States.{two_or};
 ghost use Rattle.vss_core.specs.Complaints.{AllLaidOut, LaidOut, cell_of};
 
-use crate::posts::complaint_in;
+use crate::posts::{complaint_in, told_by};
 use lists::OutOfMemory;
+use sharing61::Crossing;
 use std::alloc::Global;
 use std::marker::Model;
-use talk::{Complaint, ComplaintList, Crossing, Post, PostList};
+use talk::{Complaint, ComplaintList, Post, PostList};
 
 // How many columns a table has: more than the greatest index of a receiver, which is 15.
 const COLUMNS: usize = 16;
@@ -26,7 +26,7 @@ struct ComplaintTable {
 impl Model for ComplaintTable {
     ghost use Rattle.std.specs.Prelude.{List, Option};
     ghost use Rattle.std.specs.Coded.{coded_list, coded_option};
-    ghost use Rattle.talk.specs.declared.messages.Crossing.{Crossing};
+    ghost use Rattle.sharing61.specs.declared.Crossing.{Crossing};
     ghost use Rattle.vss_core.specs.States.{crossing_code};
 
     ghost Value = { List (Option Crossing) };
@@ -71,7 +71,7 @@ impl<'a> ComplaintTables<'a> {
     // The complaint of instance i against k in a seat's post. Past the table it reads the post itself.
     pub(crate) fn complaint(&self, seat: u32, i: u32, k: u32) -> Option<Crossing>
         requires { (1 ≤ seat) × (seat ≤ length self.now) }
-        ensures { two_or result ≡ listed_in i k (post_at self.now seat) }
+        ensures { result ≡ listed_in i k (post_at self.now seat) }
     {
         let at = (seat - 1) as usize;
         let table = &self.tables[at];
@@ -127,7 +127,8 @@ fn cells_of(
     instances: u32,
     list: &ComplaintList,
 ) -> Result<Vec<Option<Crossing>>, OutOfMemory>
-    ensures { IfOk result (λ t. (i k : ℕ) → k < 16 → i * 16 + k < length t.items → cell_of t.items i k ≡ complaint_at i k list.now) }
+    ensures { IfOk result
+        (λ t. (i k : ℕ) → k < 16 → i * 16 + k < length t.items → cell_of t.items i k ≡ complaint_at i k list.now) }
 {
     let mut cells = no_cells(alloc, instances as usize * COLUMNS)?;
     let complaints = list.as_slice();
@@ -146,10 +147,12 @@ fn no_cells(alloc: Global, n: usize) -> Result<Vec<Option<Crossing>>, OutOfMemor
 
 // Puts a complaint into its cell, where there is one.
 fn write(cells: &mut [Option<Crossing>], complaint: &Complaint)
-    ensures { (i k : ℕ) → k < 16 → i * 16 + k < length cells.new → cell_of cells.new i k ≡ first_of (eqb complaint.now.instance i && eqb complaint.now.against k) (record { u = complaint.now.u; v = complaint.now.v }) (cell_of cells.old i k) }
+    ensures { (i k : ℕ) → k < 16 → i * 16 + k < length cells.new → cell_of cells.new i k ≡ first_of
+        (eqb complaint.now.instance i && eqb complaint.now.against k)
+        (record { row = complaint.now.u; column = complaint.now.v }) (cell_of cells.old i k) }
 {
     let cell = cell_at(complaint.instance, complaint.against);
     if (complaint.against as usize) < COLUMNS && cell < cells.len() {
-        cells[cell] = Some(complaint.crossing());
+        cells[cell] = Some(told_by(complaint));
     }
 }

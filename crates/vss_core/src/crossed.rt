@@ -1,21 +1,22 @@
 //! A receiver after the second round.
 
 ghost use Rattle.std.specs.Prelude.{◌≡◌, ℕ, ◌+◌, ◌-◌, ◌*◌, ◌<◌, ◌≤◌, List, [], ◌++◌, length, IfOk, OnOk, MatchResult, Option, cond, eqb};
-ghost use Rattle.sharing61.specs.Rules.{Pair, Two, at_point, complaint_of};
+ghost use Rattle.sharing61.specs.Rules.{Pair, at_point, complaint_of};
 ghost use Rattle.talk.specs.Shape.{Shape, seats, instances};
 ghost use Rattle.plays.specs.Said.{complaint_list, complaint_row, complaint_item};
 ghost use Rattle.plays.specs.Play.{seat_of};
 ghost use Rattle.plays.specs.Read.{crossed_in};
 ghost use Rattle.plays.specs.Seat.{complains, ring_at};
-ghost use Rattle.vss_core.specs.States.{CrossedState, ComplainedState, IsReceiver, RoundRings, RoundPosts, two_of, two_or, cross_of};
+ghost use Rattle.vss_core.specs.States.{CrossedState, ComplainedState, IsReceiver, RoundRings, RoundPosts, cross_of};
 
 use crate::posts::crossing;
 use crate::{Complained, PairList, PolyPair, StepError};
 use field61::Fe;
 use lists::{OutOfMemory, TryCopy};
+use sharing61::Crossing;
 use std::alloc::Global;
 use std::marker::Model;
-use talk::{Complaint, ComplaintList, Crossing, PostList, RingList, Setting};
+use talk::{Complaint, ComplaintList, PostList, RingList, Setting};
 
 /// A receiver after the second round. Contracts see its setting, its index, its pairs and its complaints.
 #[derive(Drop)]
@@ -72,7 +73,9 @@ impl Crossed {
         posts: &PostList,
     ) -> Result<Complained, StepError<Crossed>>
         requires { RoundPosts self.shape 3 posts.now }
-        ensures { MatchResult result (λ c. c ≡ record { shape = self.shape; me = self.me; pairs = self.pairs; third = posts.now }) (λ k. k.state ≡ self) }
+        ensures { MatchResult result
+            (λ c. c ≡ record { shape = self.shape; me = self.me; pairs = self.pairs; third = posts.now })
+            (λ k. k.state ≡ self) }
     {
         match posts.copy(alloc) {
             Ok(third) => Ok(Complained::made(self.setting, self.me, self.pairs, third)),
@@ -92,7 +95,8 @@ pub(crate) fn complaints_of(
     requires receiver { IsReceiver s.now me }
     requires rings { RoundRings s.now 2 me rings.now }
     requires pairs { length pairs.now ≡ instances s.now }
-    ensures { IfOk result (λ l. l ≡ complaint_list (instances s.now) s.now.receivers (complains s.now me pairs.now rings.now)) }
+    ensures { IfOk result
+        (λ l. l ≡ complaint_list (instances s.now) s.now.receivers (complains s.now me pairs.now rings.now)) }
 {
     let mut list = ComplaintList::new(alloc);
     for i in 0..s.instances() {
@@ -113,7 +117,9 @@ fn complain_all(
     requires receiver { IsReceiver s.now me }
     requires rings { RoundRings s.now 2 me rings.now }
     requires instance { i < instances s.now }
-    ensures { OnOk result (list.new ≡ list.old ++ complaint_row i s.now.receivers (λ k. complaint_of (at_point pair.now k) (cross_of s.now me pair.now rings.now i k))) }
+    ensures { OnOk result
+        (list.new ≡ list.old ++ complaint_row i s.now.receivers
+        (λ k. complaint_of (at_point pair.now k) (cross_of s.now me pair.now rings.now i k))) }
 {
     for k in 1..s.receivers() + 1 {
         complain(s, me, pair, rings, i, k, list)?;
@@ -135,7 +141,9 @@ fn complain(
     requires rings { RoundRings s.now 2 me rings.now }
     requires instance { i < instances s.now }
     requires against { IsReceiver s.now k }
-    ensures { OnOk result (list.new ≡ list.old ++ complaint_item i k (complaint_of (at_point pair.now k) (cross_of s.now me pair.now rings.now i k))) }
+    ensures { OnOk result
+        (list.new ≡ list.old ++ complaint_item i k
+        (complaint_of (at_point pair.now k) (cross_of s.now me pair.now rings.now i k))) }
 {
     let own = pair.at(k);
     if let Some(theirs) = crossing_of(s, me, own, rings, i, k) {
@@ -164,7 +172,7 @@ fn crossing_of(
     requires rings { RoundRings s.now 2 me rings.now }
     requires instance { i < instances s.now }
     requires against { IsReceiver s.now k }
-    ensures { two_or result ≡ cond (eqb k me) (Option.Some (two_of mine)) (crossed_in i (ring_at rings.now (seat_of s.now k))) }
+    ensures { result ≡ cond (eqb k me) (Option.Some mine) (crossed_in i (ring_at rings.now (seat_of s.now k))) }
 {
     if k == me {
         return Some(mine);

@@ -3,11 +3,12 @@
 ghost use Rattle.std.specs.Prelude.{◌≡◌, ℕ, ◌+◌, ◌-◌, ◌*◌, ◌<◌, ◌≤◌, List, [], ◌++◌, length, IfOk, get_or, Bool, Option};
 ghost use Rattle.algebra61.specs.Field.{Fp};
 ghost use Rattle.sharing61.specs.Count.{anyone};
-ghost use Rattle.sharing61.specs.Rules.{Pair, Two, pair_on, two_on, off_grid, reveal_of};
+ghost use Rattle.sizes.specs.Instances.{instance_at};
+ghost use Rattle.sharing61.specs.Rules.{Pair, pair_on, crossing_on, off_grid, reveal_of};
 ghost use Rattle.talk.specs.Shape.{Shape, seats, instances};
 ghost use Rattle.plays.specs.Said.{dealt_list, pair_list, reveal_item, reveal_list};
 ghost use Rattle.plays.specs.Seat.{heard_complaint, reveals};
-ghost use Rattle.vss_core.specs.States.{DealerState, IsDealer, IsReceiver, FiveGrids, RoundPosts, two_or, lane_items};
+ghost use Rattle.vss_core.specs.States.{DealerState, IsDealer, IsReceiver, FiveGrids, RoundPosts, lane_items};
 
 use crate::PolyPair;
 use crate::complaints::ComplaintTables;
@@ -15,9 +16,11 @@ use crate::pairs::{padded, push_padded};
 use bivar61::{Grid, GridList};
 use field61::{Fe, FeList};
 use lists::OutOfMemory;
+use sharing61::Crossing;
+use sizes::Instance;
 use std::alloc::Global;
 use std::marker::Model;
-use talk::{Crossing, PostList, Reveal, RevealList, Setting};
+use talk::{PostList, Reveal, RevealList, Setting};
 
 /// A dealer: one grid for each of the five lanes. Contracts see its setting, its index and its grids.
 #[derive(Drop)]
@@ -59,7 +62,8 @@ impl Dealer {
     /// What goes to a receiver in the first round: lane by lane the coefficients of its row and of its column.
     pub fn deal_for(&self, alloc: Global, receiver: u32) -> Result<FeList, OutOfMemory>
         requires { IsReceiver self.now.shape receiver }
-        ensures { IfOk result (λ l. l ≡ dealt_list self.now.shape.degree (λ k. pair_on (get_or self.now.grids k []) receiver)) }
+        ensures { IfOk result
+            (λ l. l ≡ dealt_list self.now.shape.degree (λ k. pair_on (get_or self.now.grids k []) receiver)) }
     {
         dealt_to(alloc, &self.grids, self.setting.degree() as usize, receiver)
     }
@@ -68,7 +72,9 @@ impl Dealer {
     /// complaint, values other than its grid's.
     pub fn reveals(&self, alloc: Global, posts: &PostList) -> Result<RevealList, OutOfMemory>
         requires { length posts.now ≡ seats self.now.shape }
-        ensures { IfOk result (λ l. l ≡ reveal_list self.now.shape.degree self.now.shape.receivers (reveals self.now.shape self.now.grids posts.now self.now.me)) }
+        ensures { IfOk result
+            (λ l. l ≡ reveal_list self.now.shape.degree self.now.shape.receivers
+            (reveals self.now.shape self.now.grids posts.now self.now.me)) }
     {
         let told = ComplaintTables::new(alloc, self.setting.instances(), posts)?;
         self.all_reveals(alloc, &told)
@@ -89,7 +95,9 @@ impl Dealer {
         posts: &ComplaintTables<'_>,
     ) -> Result<RevealList, OutOfMemory>
         requires { length posts.now ≡ seats self.now.shape }
-        ensures { IfOk result (λ l. l ≡ reveal_list self.now.shape.degree self.now.shape.receivers (reveals self.now.shape self.now.grids posts.now self.now.me)) }
+        ensures { IfOk result
+            (λ l. l ≡ reveal_list self.now.shape.degree self.now.shape.receivers
+            (reveals self.now.shape self.now.grids posts.now self.now.me)) }
     {
         let mut list = RevealList::new(alloc);
         for lane in 0..5 {
@@ -108,7 +116,9 @@ impl Dealer {
     ) -> Result<(), OutOfMemory>
         requires lane { lane < 5 }
         requires all { length posts.now ≡ seats self.now.shape }
-        ensures { IfOk result (λ _. list.new ≡ list.old ++ lane_items self.now.shape self.now.me (get_or self.now.grids lane []) posts.now lane self.now.shape.receivers) }
+        ensures { IfOk result
+            (λ _. list.new ≡ list.old ++ lane_items self.now.shape self.now.me
+            (get_or self.now.grids lane []) posts.now lane self.now.shape.receivers) }
     {
         for j in 1..self.setting().receivers() + 1 {
             self.reveal_one(alloc, posts, lane, j, list)?;
@@ -128,12 +138,16 @@ impl Dealer {
         requires lane { lane < 5 }
         requires receiver { IsReceiver self.now.shape j }
         requires all { length posts.now ≡ seats self.now.shape }
-        ensures { IfOk result (λ _. list.new ≡ list.old ++ reveal_item self.now.shape.degree lane j (reveal_of self.now.shape.receivers (get_or self.now.grids lane []) (heard_complaint self.now.shape posts.now ((self.now.me - 1) * 5 + lane) j) j)) }
+        ensures { IfOk result
+            (λ _. list.new ≡ list.old ++ reveal_item self.now.shape.degree lane j
+            (reveal_of self.now.shape.receivers (get_or self.now.grids lane [])
+            (heard_complaint self.now.shape posts.now (instance_at self.now.me lane) j) j)) }
     {
         let dealers = self.setting.dealers();
         prove!(self.me <= dealers);
         let grid = self.grids.at(lane as usize);
-        let instance = (self.me - 1) * 5 + lane;
+        let dealer = self.me;
+        let instance = Instance { dealer, lane }.number();
         if tells_off(&self.setting, grid, posts, instance, j) {
             return push_reveal(alloc, list, grid, self.setting.degree() as usize, lane, j);
         }
@@ -207,7 +221,7 @@ fn tells_off(s: &Setting, grid: &Grid, posts: &ComplaintTables<'_>, i: u32, j: u
 
 // Whether a complaint of j against k tells values other than the grid's.
 fn is_off(grid: &Grid, j: u32, k: u32, told: Option<Crossing>) -> bool
-    ensures { result ≡ off_grid grid.now j k (two_or told) }
+    ensures { result ≡ off_grid grid.now j k told }
 {
     match told {
         None => false,

@@ -49,7 +49,8 @@ impl Dealt {
     /// that receiver's point.
     pub fn cross_for(&self, alloc: Global, receiver: u32) -> Result<FeList, OutOfMemory>
         requires { IsReceiver self.now.shape receiver }
-        ensures { IfOk result (λ l. l ≡ cross_list (instances self.now.shape) (λ i. at_point (pair_at self.now.pairs i) receiver)) }
+        ensures { IfOk result
+            (λ l. l ≡ cross_list (instances self.now.shape) (λ i. at_point (pair_at self.now.pairs i) receiver)) }
     {
         cross_points(alloc, &self.pairs, receiver)
     }
@@ -58,7 +59,16 @@ impl Dealt {
     /// swapped, and of itself where its row and column differ at its own point.
     pub fn hear_crosses(self, alloc: Global, rings: &RingList) -> Result<Crossed, StepError<Dealt>>
         requires { RoundRings self.shape 2 self.me rings.now }
-        ensures { MatchResult result (λ c. c ≡ record { shape = self.shape; me = self.me; pairs = self.pairs; complaints = complaint_list (instances self.shape) self.shape.receivers (complains self.shape self.me self.pairs rings.now) }) (λ k. k.state ≡ self) }
+        ensures { MatchResult result
+            (λ c. c
+            ≡ record {
+              shape = self.shape;
+              me = self.me;
+              pairs = self.pairs;
+              complaints = complaint_list
+                  (instances self.shape) self.shape.receivers (complains self.shape self.me self.pairs rings.now);
+            })
+            (λ k. k.state ≡ self) }
     {
         match complaints_of(alloc, &self.setting, self.me, &self.pairs, rings) {
             Ok(complaints) => Ok(Crossed::made(self.setting, self.me, self.pairs, complaints)),

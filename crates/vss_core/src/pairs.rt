@@ -3,18 +3,19 @@
 ghost use Rattle.std.specs.Prelude.{◌≡◌, ◌+◌, ◌*◌, ◌<◌, ◌≤◌, ◌++◌, length, IfOk};
 ghost use Rattle.algebra61.specs.Field.{Fp};
 ghost use Rattle.algebra61.specs.Polynomial.{poly};
-ghost use Rattle.sharing61.specs.Rules.{Pair, Two, at_point, pair_on, zero_pair};
+ghost use Rattle.sharing61.specs.Rules.{Pair, at_point, pair_on, zero_pair};
 ghost use Rattle.plays.specs.Read.{dealt_in, part};
-ghost use Rattle.vss_core.specs.States.{DealtLong, two_of};
+ghost use Rattle.vss_core.specs.States.{DealtLong};
 ghost use Rattle.plays.specs.Said.{padded, pair_list};
 
 use bivar61::Grid;
 use field61::{Fe, FeList};
 use lists::{List, OutOfMemory, TryCopy};
 use poly61::Poly;
+use sharing61::Crossing;
 use std::alloc::Global;
 use std::marker::Model;
-use talk::{Crossing, Ring};
+use talk::Ring;
 
 /// A row and a column: what a receiver holds of an instance.
 #[derive(Drop)]
@@ -78,7 +79,7 @@ impl PolyPair {
 
     /// The values of the row and of the column at a receiver's point.
     pub fn at(&self, receiver: u32) -> Crossing
-        ensures { two_of result ≡ at_point self.now receiver }
+        ensures { result ≡ at_point self.now receiver }
     {
         let x = Fe::reduce(u64::from(receiver));
         Crossing {

@@ -2,20 +2,21 @@
 
 ghost use Rattle.std.specs.Prelude.{◌≡◌, ℕ, ◌+◌, ◌*◌, ◌<◌, ◌≤◌, Bool, List, length, IfOk, is_none, Option};
 ghost use Rattle.plays.specs.Read.{crossed_in, complaint_at, listed_in, reveal_at, shown_in, voted_in};
-ghost use Rattle.vss_core.specs.States.{CrossLong, two_or};
+ghost use Rattle.vss_core.specs.States.{CrossLong};
 
 use crate::PolyPair;
 use lists::OutOfMemory;
 use poly61::Poly;
+use sharing61::Crossing;
 use std::alloc::Global;
-use talk::{ComplaintList, Crossing, Post, Reveal, RevealList, Ring};
+use talk::{Complaint, ComplaintList, Post, Reveal, RevealList, Ring};
 
 // The crossing pair of instance i in a message of the second round.
 pub(crate) fn crossing(ring: &Ring, instances: u32, i: u32) -> Option<Crossing>
     requires long { CrossLong instances ring.now }
     requires instance { i < instances }
     requires few { instances ≤ 75 }
-    ensures { two_or result ≡ crossed_in i ring.now }
+    ensures { result ≡ crossed_in i ring.now }
 {
     match ring {
         Ring::Cross { list } => {
@@ -29,9 +30,19 @@ pub(crate) fn crossing(ring: &Ring, instances: u32, i: u32) -> Option<Crossing>
     }
 }
 
+// The two values that a complaint tells.
+pub(crate) fn told_by(complaint: &Complaint) -> Crossing
+    ensures { result ≡ record { row = complaint.now.u; column = complaint.now.v } }
+{
+    Crossing {
+        row: complaint.u,
+        column: complaint.v,
+    }
+}
+
 // The complaint of instance i against k in a post.
 pub(crate) fn complaint_in(post: &Post, i: u32, k: u32) -> Option<Crossing>
-    ensures { two_or result ≡ listed_in i k post.now }
+    ensures { result ≡ listed_in i k post.now }
 {
     match post {
         Post::Complaints { list } => complaint_at(list, i, k),
@@ -41,11 +52,11 @@ pub(crate) fn complaint_in(post: &Post, i: u32, k: u32) -> Option<Crossing>
 
 // The first complaint of instance i against k.
 fn complaint_at(list: &ComplaintList, i: u32, k: u32) -> Option<Crossing>
-    ensures { two_or result ≡ complaint_at i k list.now }
+    ensures { result ≡ complaint_at i k list.now }
 {
     for complaint in list.as_slice() {
         if complaint.instance == i && complaint.against == k {
-            return Some(complaint.crossing());
+            return Some(told_by(complaint));
         }
     }
     None

@@ -10,6 +10,7 @@ ghost use Rattle.vss_core.specs.States.{ReadyState, DealtState, IsReceiver, Roun
 use crate::pairs::dealt_pair;
 use crate::{Dealer, Dealt, PairList, PolyPair, StepError};
 use lists::OutOfMemory;
+use sizes::Instance;
 use std::alloc::Global;
 use std::marker::Model;
 use talk::{RingList, Setting};
@@ -49,7 +50,15 @@ impl Ready {
         own: Option<&Dealer>,
     ) -> Result<Dealt, StepError<Ready>>
         requires { RoundRings self.shape 1 self.me rings.now }
-        ensures { MatchResult result (λ d. d ≡ record { shape = self.shape; me = self.me; pairs = map (holds self.shape self.me (own_grids own.entry) rings.now) (places (instances self.shape)) }) (λ k. k.state ≡ self) }
+        ensures { MatchResult result
+            (λ d. d
+            ≡ record {
+              shape = self.shape;
+              me = self.me;
+              pairs = map
+                  (holds self.shape self.me (own_grids own.entry) rings.now) (places (instances self.shape));
+            })
+            (λ k. k.state ≡ self) }
     {
         match held_pairs(alloc, &self.setting, self.me, rings, own) {
             Ok(pairs) => Ok(Dealt::made(self.setting, self.me, pairs)),
@@ -92,12 +101,13 @@ fn held_pair(
     ensures { IfOk result (λ p. p ≡ holds s.now me (own_grids own.entry) rings.now i) }
 {
     let dealers = s.dealers();
-    prove!(i / 5 < dealers);
-    if i / 5 + 1 == s.seat_of(me) {
-        return own_pair(alloc, own, i % 5, me);
+    let instance = Instance::of(i);
+    prove!(instance.dealer <= dealers);
+    if instance.dealer == s.seat_of(me) {
+        return own_pair(alloc, own, instance.lane, me);
     }
-    let ring = rings.at((i / 5) as usize);
-    dealt_pair(alloc, ring, s.degree() as usize, (i % 5) as usize)
+    let ring = rings.at((instance.dealer - 1) as usize);
+    dealt_pair(alloc, ring, s.degree() as usize, instance.lane as usize)
 }
 
 // The own pair in a lane.

@@ -13,6 +13,7 @@ ghost use Rattle.vss_core.specs.States.{RevealedState, DoneState, IsReceiver, Ro
 use crate::posts::{revealed_in, voted_in};
 use crate::{Done, PairList, PolyPair, StepError};
 use lists::{OutOfMemory, TryCopy};
+use sizes::Instance;
 use std::alloc::Global;
 use std::marker::Model;
 use talk::{PostList, Setting, VoteList};
@@ -81,7 +82,17 @@ impl Revealed {
     /// is revealed, else the one that it held; in any other two zero polynomials.
     pub fn hear_votes(self, alloc: Global, posts: &PostList) -> Result<Done, StepError<Revealed>>
         requires { RoundPosts self.shape 5 posts.now }
-        ensures { MatchResult result (λ d. d ≡ record { shape = self.shape; me = self.me; kept = map (keeps self.shape self.me self.pairs self.fourth posts.now) (places (instances self.shape)); accepted = map (heard_accepted self.shape posts.now) (places (instances self.shape)) }) (λ k. k.state ≡ self) }
+        ensures { MatchResult result
+            (λ d. d
+            ≡ record {
+              shape = self.shape;
+              me = self.me;
+              kept = map
+                  (keeps self.shape self.me self.pairs self.fourth posts.now)
+                  (places (instances self.shape));
+              accepted = map (heard_accepted self.shape posts.now)
+                  (places (instances self.shape));
+            }) (λ k. k.state ≡ self) }
     {
         let Ok(accepted) = all_accepted(alloc, &self.setting, posts) else {
             return Err(StepError { state: self });
@@ -174,8 +185,10 @@ fn kept_pair(
         return PolyPair::zero(alloc);
     }
     let dealers = s.dealers();
-    prove!(i / 5 < dealers);
-    match revealed_in(alloc, fourth.at((i / 5) as usize), i % 5, me)? {
+    let instance = Instance::of(i);
+    prove!(instance.dealer <= dealers);
+    let post = fourth.at((instance.dealer - 1) as usize);
+    match revealed_in(alloc, post, instance.lane, me)? {
         Some(shown) => Ok(shown),
         None => pair.copy(alloc),
     }

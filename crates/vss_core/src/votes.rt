@@ -8,15 +8,17 @@ ghost use Rattle.sizes.specs.Instances.{lane_of};
 ghost use Rattle.plays.specs.Read.{shown_in};
 ghost use Rattle.plays.specs.Said.{vote_list, places};
 ghost use Rattle.plays.specs.Seat.{says_yes, heard_complaint, heard_shown, pair_at};
-ghost use Rattle.vss_core.specs.States.{IsReceiver, two_or};
+ghost use Rattle.vss_core.specs.States.{IsReceiver};
 ghost use Rattle.vss_core.specs.Complaints.{settled_here};
 
 use crate::complaints::ComplaintTables;
 use crate::posts::{is_hidden, revealed_in};
 use crate::{PairList, PolyPair};
 use lists::OutOfMemory;
+use sharing61::Crossing;
+use sizes::Instance;
 use std::alloc::Global;
-use talk::{Crossing, Post, PostList, Setting, VoteList};
+use talk::{Post, PostList, Setting, VoteList};
 
 // The votes on all instances.
 pub(crate) fn votes_of(
@@ -56,11 +58,14 @@ fn vote_on(
     requires third { length third.now ≡ seats s.now }
     requires fourth { length fourth.now ≡ seats s.now }
     requires instance { i < instances s.now }
-    ensures { IfOk result (λ b. b ≡ votes_yes s.now.receivers (heard_complaint s.now third.now i) (heard_shown fourth.now i) me pair.now) }
+    ensures { IfOk result
+        (λ b. b ≡ votes_yes s.now.receivers (heard_complaint s.now third.now i)
+        (heard_shown fourth.now i) me pair.now) }
 {
     let dealers = s.dealers();
-    prove!(i / 5 < dealers);
-    let reveals = fourth.at((i / 5) as usize);
+    let instance = Instance::of(i);
+    prove!(instance.dealer <= dealers);
+    let reveals = fourth.at((instance.dealer - 1) as usize);
     let vote = vote_by(alloc, s, me, pair, third, reveals, i)?;
     Ok(vote)
 }
@@ -76,10 +81,13 @@ fn vote_by(
     i: u32,
 ) -> Result<bool, OutOfMemory>
     requires { length third.now ≡ seats s.now }
-    ensures { IfOk result (λ b. b ≡ votes_yes s.now.receivers (heard_complaint s.now third.now i) (λ j. shown_in (lane_of i) j reveals.now) me pair.now) }
+    ensures { IfOk result
+        (λ b. b ≡ votes_yes s.now.receivers (heard_complaint s.now third.now i)
+        (λ j. shown_in (lane_of i) j reveals.now) me pair.now) }
 {
-    let hidden = is_hidden(reveals, i % 5, me);
-    let fit = all_fit(alloc, s, me, pair, reveals, i % 5)?;
+    let lane = Instance::of(i).lane;
+    let hidden = is_hidden(reveals, lane, me);
+    let fit = all_fit(alloc, s, me, pair, reveals, lane)?;
     let settled = all_settled(alloc, s, third, reveals, i)?;
     Ok(hidden && (fit && settled))
 }
@@ -133,9 +141,13 @@ fn all_settled(
     i: u32,
 ) -> Result<bool, OutOfMemory>
     requires { length third.now ≡ seats s.now }
-    ensures { IfOk result (λ b. b ≡ everyone s.now.receivers (λ k. everyone s.now.receivers (λ l. settled (shown_in (lane_of i) k reveals.now) (shown_in (lane_of i) l reveals.now) (heard_complaint s.now third.now i k l) (heard_complaint s.now third.now i l k)))) }
+    ensures { IfOk result
+        (λ b. b ≡ everyone s.now.receivers
+        (λ k. everyone s.now.receivers
+        (λ l. settled (shown_in (lane_of i) k reveals.now) (shown_in (lane_of i) l reveals.now)
+        (heard_complaint s.now third.now i k l) (heard_complaint s.now third.now i l k)))) }
 {
-    let hidden = all_hidden(alloc, s, reveals, i % 5)?;
+    let hidden = all_hidden(alloc, s, reveals, Instance::of(i).lane)?;
     Ok(each_two_settled(s, third, hidden.as_slice(), i))
 }
 
@@ -146,7 +158,8 @@ fn all_hidden(
     reveals: &Post,
     lane: u32,
 ) -> Result<Vec<bool>, OutOfMemory>
-    ensures { IfOk result (λ l. l.items ≡ map (λ k. is_none (shown_in lane (k + 1) reveals.now)) (places s.now.receivers)) }
+    ensures { IfOk result
+        (λ l. l.items ≡ map (λ k. is_none (shown_in lane (k + 1) reveals.now)) (places s.now.receivers)) }
 {
     let mut hidden = Vec::new(alloc);
     for k in 0..s.receivers() {
@@ -209,7 +222,7 @@ fn is_settled(
 
 // Whether two complaints, where both are there, tell the same values, swapped.
 fn tell_the_same(one: Option<Crossing>, other: Option<Crossing>) -> bool
-    ensures { result ≡ told_same (two_or one) (two_or other) }
+    ensures { result ≡ told_same one other }
 {
     match (one, other) {
         (Some(one), Some(other)) => one.row == other.column && one.column == other.row,

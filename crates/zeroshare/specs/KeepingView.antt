@@ -5,8 +5,8 @@ use Rattle.periods.specs.Keeper.{Keeper}
 use Rattle.zeroshare.specs.declared.keeping.Keeping.TheInside.{Inside}
 
 abbrev pub view_keeping : Inside → Keeper
-view_keeping a = record { member = a.sharer; old = a.old }
+view_keeping inside = record { member = inside.sharer; old = inside.old }
 
 -- a receiver sits on its seat
 abbrev pub Receives : Inside → Type 0
-Receives a = receives a.sharer.shape a.sharer.seat ≡ true
+Receives inside = receives inside.sharer.shape inside.sharer.seat ≡ true

@@ -5,4 +5,4 @@ use Rattle.periods.specs.Keeper.{Keeper}
 use Rattle.zeroshare.specs.declared.refresh.Refresh.TheInside.{Inside}
 
 abbrev pub view_refresh : (N : ℕ) → Inside N → Part Keeper
-view_refresh N a = a.part
+view_refresh N inside = inside.part

@@ -58,7 +58,8 @@ impl Mind for Keeping {
 
     fn say(&mut self, alloc: Global, round: u32) -> Result<Say, OutOfMemory>
         ensures word { IfOk result (λ w. w ≡ keeper_word self.entry.now round) }
-        ensures rings { IfOk result (λ w. (s : Shape) (seat : ℕ) → keeper_made_for self.entry.now s seat → WordFits s seat w) }
+        ensures rings { IfOk result
+            (λ w. (s : Shape) (seat : ℕ) → keeper_made_for self.entry.now s seat → WordFits s seat w) }
         ensures after { OnOk result (self.exit.now ≡ self.entry.now) }
         ensures kept { OnErr result (StaysMade (keeper_made_for self.entry.now) (keeper_made_for self.exit.now)) }
         ensures same { OnErr result (self.exit.now ≡ self.entry.now) }

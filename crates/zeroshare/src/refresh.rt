@@ -65,9 +65,11 @@ impl<const N: usize> Mind for Refresh<N> {
 
     fn say(&mut self, alloc: Global, round: u32) -> Result<Say, OutOfMemory>
         ensures word { IfOk result (λ w. w ≡ part_word keeper_word self.old round) }
-        ensures rings { IfOk result (λ w. (s : Shape) (seat : ℕ) → part_made_for keeper_made_for self.old s seat → WordFits s seat w) }
+        ensures rings { IfOk result
+            (λ w. (s : Shape) (seat : ℕ) → part_made_for keeper_made_for self.old s seat → WordFits s seat w) }
         ensures after { OnOk result (self.new ≡ part_after_say keeper_after_say self.old round) }
-        ensures kept { OnErr result (StaysMade (part_made_for keeper_made_for self.old) (part_made_for keeper_made_for self.new)) }
+        ensures kept { OnErr result
+            (StaysMade (part_made_for keeper_made_for self.old) (part_made_for keeper_made_for self.new)) }
         ensures same { OnErr result (self.new ≡ self.old) }
     {
         match &mut self.part {
@@ -94,7 +96,9 @@ impl<const N: usize> Refresh<N> {
         requires small { N ≤ 15 }
         requires bound { (1 ≤ t) × (3 * t < N) }
         requires member { (1 ≤ me) × (me ≤ N) }
-        ensures is { IfOk result (λ m. m ≡ In (keeper_at (refresh_shape N t) me (five_grids_drawn (t - 1) chance.old.seed chance.old.taken).0 old)) }
+        ensures is { IfOk result
+            (λ m. m ≡ In
+            (keeper_at (refresh_shape N t) me (five_grids_drawn (t - 1) chance.old.seed chance.old.taken).0 old)) }
         ensures after { OnOk result (chance.new ≡ record {
           seed = chance.old.seed;
           taken = (five_grids_drawn (t - 1) chance.old.seed chance.old.taken).1;

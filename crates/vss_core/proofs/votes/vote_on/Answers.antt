@@ -1,4 +1,4 @@
-use Rattle.std.proofs.Common.{◌≡◌, ◌-◌, ◌/◌, ◌∙◌, ap, arith, get_or}
+use Rattle.std.proofs.Common.{◌≡◌, ℕ, ◌-◌, ◌∙◌, ap}
 use Rattle.lists.proofs.Places.{at_or}
 use Rattle.sharing61.specs.Rules.{votes_yes}
 use Rattle.talk.specs.declared.messages.Post.{Post}
@@ -10,8 +10,8 @@ use Rattle.vss_core.proofs.votes.vote_on.Goals as goal
 
 pub returns : goal.returns
 returns c =
-    let place : c.args.i / 5 ≡ dealer_of c.args.i - 1 = omega arith in
     let post : c.at-reveals.result.now ≡ post_at c.args.fourth.now (dealer_of c.args.i) =
-    at_or c.args.fourth.now (c.args.i / 5) Quiet c.at-reveals.result.now c.at-reveals.ensures ∙ ap (λ k. get_or c.args.fourth.now k Quiet) place in
+    at_or c.args.fourth.now (c.of-instance.result.dealer - 1) Quiet c.at-reveals.result.now c.at-reveals.ensures
+    ∙ ap (λ (k : ℕ). post_at c.args.fourth.now k) c.of-instance.ensures.dealer in
     c.in_ok-vote.ensures
     ∙ ap (λ (r : Post). votes_yes c.args.s.now.receivers (heard_complaint c.args.s.now c.args.third.now c.args.i) (λ j. shown_in (lane_of c.args.i) j r) c.args.me c.args.pair.now) post

@@ -4,7 +4,7 @@ use Rattle.talk.specs.Shape.{Shape}
 use Rattle.talk.specs.Hears.{WordFits}
 use Rattle.drillbook.specs.declared.order.Order.{Order}
 use Rattle.drillbook.specs.Word.{drilled_word}
-use Rattle.drillbook.proofs.Told.{drilled_fits}
+use Rattle.drillbook.proofs.Ordered.{drilled_fits}
 use Rattle.drillbook.proofs.drilled.DrilledMind.say.Goals as goal
 
 -- for the setting and the seat that it is made for

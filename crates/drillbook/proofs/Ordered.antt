@@ -1,4 +1,4 @@
--- What a seat that is not told anything says.
+-- What a seat without an order says.
 use Rattle.std.proofs.Common.{◌≡◌, ℕ, zero, suc, ◌+◌, ◌-◌, ◌<◌, ◌≤◌, ◌⊎◌, inl, inr, Bool, true, false, not, eqb, leb, cond, ◌&&◌, ◌||◌, List, [], ◌∷◌, length, get_or, set, Option, Some, None, refl, ap, sym, subst, ◌∙◌, arith}
 use Rattle.std.proofs.lemmas.Bool.{and_parts, leb-true, cases_lt, eq-eqb}
 use Rattle.std.proofs.lemmas.List.{length-set}
@@ -16,12 +16,12 @@ use Rattle.talk.specs.Shape.{Shape}
 use Rattle.drillbook.specs.declared.order.Order.{Order}
 use Rattle.talk.specs.Basics.{first_of}
 use Rattle.drillbook.specs.Orders.{AllLawful, NamesReceiver, allows, names, order_at, other_receiver}
-use Rattle.drillbook.specs.Word.{drilled_word, told_word, told_rings, retold, garbled_rings, ring_changed, skewed_rings, skewed_deal, skewed_cross, lowest_other, late_word}
-use Rattle.drillbook.specs.Law.{UnnamedSpeaks, UntoldSpeaks}
+use Rattle.drillbook.specs.Word.{drilled_word, ordered_word, ordered_rings, reworded, garbled_rings, ring_changed, skewed_rings, skewed_deal, skewed_cross, lowest_other, late_word}
+use Rattle.drillbook.specs.Law.{UnnamedSpeaks, SpeaksWithoutOrder}
 
-pub untold_speaks : UntoldSpeaks
+pub speaks_without_order : SpeaksWithoutOrder
 unfolding drilled_word
-untold_speaks s orders seat round second w e = ap (λ v. told_word s seat round second v w) e
+speaks_without_order s orders seat round second w e = ap (λ v. ordered_word s seat round second v w) e
 
 -- by whether an order names the seat, and what the later orders give
 at_party : {A : Type 0} (named round : Bool) (rest : Bool) (v : A) (o : Option A) → (rest ≡ false → o ≡ None) → (named || rest) ≡ false → first_of (named && round) v o ≡ None
@@ -29,13 +29,13 @@ at_party true round rest v o h e = absurd cc
 at_party false round rest v o h e = h e
 
 -- a seat that no order names has none in any round
-pub unnamed_untold : (orders : List Order) (seat round : ℕ) → names orders seat ≡ false → order_at orders seat round ≡ None
-unnamed_untold [] seat round e = refl
-unnamed_untold (o ∷ os) seat round e =
-    at_party (eqb o.party seat) (eqb o.round round) (names os seat) o.verb (order_at os seat round) (unnamed_untold os seat round) e
+pub unnamed_has_no_order : (orders : List Order) (seat round : ℕ) → names orders seat ≡ false → order_at orders seat round ≡ None
+unnamed_has_no_order [] seat round e = refl
+unnamed_has_no_order (o ∷ os) seat round e =
+    at_party (eqb o.party seat) (eqb o.round round) (names os seat) o.verb (order_at os seat round) (unnamed_has_no_order os seat round) e
 
 pub unnamed_speaks : UnnamedSpeaks
-unnamed_speaks s orders seat round second w e = untold_speaks s orders seat round second w (unnamed_untold orders seat round e)
+unnamed_speaks s orders seat round second w e = speaks_without_order s orders seat round second w (unnamed_has_no_order orders seat round e)
 
 -- a receiver that an order of a lawful drill names is one of the setting
 accused_there : (s : Shape) (seat round j : ℕ) → allows s seat round (Accuse j) ≡ true → (1 ≤ j) × (j ≤ s.receivers)
@@ -116,7 +116,7 @@ skewed_fits s seat round k rs h =
     either_fits s seat (eqb round 1) _ _ (changed_fits s seat (lowest_other s seat) (skewed_deal s.degree k) rs refl h)
     (either_fits s seat (eqb round 2) _ _ (changed_fits s seat (lowest_other s seat) (skewed_cross k) rs refl h) h)
 
-rings_fit : (s : Shape) (seat round : ℕ) (v : Verb) (rs : List Ring) → OneEach s seat rs → OneEach s seat (told_rings s seat round v rs)
+rings_fit : (s : Shape) (seat round : ℕ) (v : Verb) (rs : List Ring) → OneEach s seat rs → OneEach s seat (ordered_rings s seat round v rs)
 rings_fit s seat round Garble rs h = garbled_fits s seat
 rings_fit s seat round (Skew k) rs h = skewed_fits s seat round k rs h
 rings_fit s seat round (Accuse j) rs h = h
@@ -125,26 +125,26 @@ rings_fit s seat round (Wrong k) rs h = h
 rings_fit s seat round Late rs h = h
 rings_fit s seat round Silent rs h = h
 
-retold_fits : (s : Shape) (seat round : ℕ) (second : Say) (v : Verb) (w : Say) → WordFits s seat w → WordFits s seat (retold s seat round second v w)
-retold_fits s seat round second v (Speak p rs) h = rings_fit s seat round v rs h
-retold_fits s seat round second v Pass h = tt
-retold_fits s seat round second v (PassThenSpeak p rs) h = rings_fit s seat round v rs h
+reworded_fits : (s : Shape) (seat round : ℕ) (second : Say) (v : Verb) (w : Say) → WordFits s seat w → WordFits s seat (reworded s seat round second v w)
+reworded_fits s seat round second v (Speak p rs) h = rings_fit s seat round v rs h
+reworded_fits s seat round second v Pass h = tt
+reworded_fits s seat round second v (PassThenSpeak p rs) h = rings_fit s seat round v rs h
 
 late_fits : (s : Shape) (seat : ℕ) (w : Say) → WordFits s seat w → WordFits s seat (late_word w)
 late_fits s seat (Speak p rs) h = h
 late_fits s seat Pass h = tt
 late_fits s seat (PassThenSpeak p rs) h = h
 
-told_fits : (s : Shape) (seat round : ℕ) (second : Say) (v : Option Verb) (w : Say) → WordFits s seat w → WordFits s seat (told_word s seat round second v w)
-told_fits s seat round second None w h = h
-told_fits s seat round second (Some Silent) w h = tt
-told_fits s seat round second (Some Late) w h = late_fits s seat w h
-told_fits s seat round second (Some Garble) w h = retold_fits s seat round second Garble w h
-told_fits s seat round second (Some (Skew k)) w h = retold_fits s seat round second (Skew k) w h
-told_fits s seat round second (Some (Wrong k)) w h = h
-told_fits s seat round second (Some (Accuse j)) w h = retold_fits s seat round second (Accuse j) w h
-told_fits s seat round second (Some Veto) w h = retold_fits s seat round second Veto w h
+ordered_fits : (s : Shape) (seat round : ℕ) (second : Say) (v : Option Verb) (w : Say) → WordFits s seat w → WordFits s seat (ordered_word s seat round second v w)
+ordered_fits s seat round second None w h = h
+ordered_fits s seat round second (Some Silent) w h = tt
+ordered_fits s seat round second (Some Late) w h = late_fits s seat w h
+ordered_fits s seat round second (Some Garble) w h = reworded_fits s seat round second Garble w h
+ordered_fits s seat round second (Some (Skew k)) w h = reworded_fits s seat round second (Skew k) w h
+ordered_fits s seat round second (Some (Wrong k)) w h = h
+ordered_fits s seat round second (Some (Accuse j)) w h = reworded_fits s seat round second (Accuse j) w h
+ordered_fits s seat round second (Some Veto) w h = reworded_fits s seat round second Veto w h
 
 pub drilled_fits : (s : Shape) (orders : List Order) (seat round : ℕ) (second w said : Say) → said ≡ drilled_word s orders seat round second w → WordFits s seat w → WordFits s seat said
 unfolding drilled_word
-drilled_fits s orders seat round second w said e h = subst (WordFits s seat) (sym e) (told_fits s seat round second (order_at orders seat round) w h)
+drilled_fits s orders seat round second w said e h = subst (WordFits s seat) (sym e) (ordered_fits s seat round second (order_at orders seat round) w h)
