@@ -1,13 +1,10 @@
 -- Why a call of the outside fails, and what it leaves.
 use Rattle.std.specs.Prelude.{◌≡◌, ◌≤◌, ◌⊎◌, ◌↔◌, ℕ, ◌+◌, ◌-◌, ◌^◌, ◌++◌, min, List, [], ◌∷◌, take, length, Option, Some, None, Result, Ok, Err, IsErr, IsErrOf, Contains}
 use Rattle.std.specs.Option.{option_map}
+use Rattle.counters.specs.Counts.{Rose}
 use Rattle.shelf.specs.Held.{Held, Change, after_change}
 use Rattle.shelf.specs.declared.fault.OutsideFault.{OutsideFault}
 use Rattle.shelf.specs.declared.fault.OutsideFault.TheVariants.{Failed, OutOfMemory}
-
--- a count of faults rose. At its last value it stands still, and is then said to have risen
-abbrev pub Rose : ℕ → ℕ → Type 0
-Rose before now = min (before + 1) (2 ^ 64 - 1) ≤ now
 
 -- the count of faults never falls, and `Failed` comes only where it rose
 pub record HasCause {T : Type 0} (before now : ℕ) (result : Result T OutsideFault) : Type 0 where

@@ -1,9 +1,11 @@
 //! The current folder, the system's random bytes and a stream for text. What they hold isn't told:
 //! that a real file, device or terminal behaves so is trusted, and tested.
 ghost use Rattle.std.specs.Prelude.{OnErr};
-ghost use Rattle.shelf.specs.Causes.{HasCause, Rose};
+ghost use Rattle.shelf.specs.Causes.{HasCause};
+ghost use Rattle.counters.specs.Counts.{Rose};
 
 use crate::fault::OutsideFault;
+use counters::raised;
 use std::io;
 
 mod device;
@@ -23,7 +25,7 @@ fn answered<T>(faults: &mut u64, done: io::Result<T>) -> Result<T, OutsideFault>
     match done {
         Ok(found) => Ok(found),
         Err(_) => {
-            *faults = faults.saturating_add(1);
+            *faults = raised(*faults);
             Err(OutsideFault::Failed)
         }
     }

@@ -1,8 +1,10 @@
 //! Which calls of an object in memory fail.
 ghost use Rattle.std.specs.Prelude.{◌≡◌, ◌≤◌, ◌+◌, ◌-◌, ◌^◌, ◌↔◌, [], min, Contains, IsErrOf};
-ghost use Rattle.shelf.specs.Causes.{HasCause, Rose};
+ghost use Rattle.shelf.specs.Causes.{HasCause};
+ghost use Rattle.counters.specs.Counts.{Rose};
 
 use crate::fault::OutsideFault;
+use counters::raised;
 
 /// The numbers of the calls that fail, and how many calls were made and have failed. The first
 /// call has the number 0.
@@ -33,7 +35,7 @@ impl Calls {
         ensures made { self.new.made ≡ self.old.made }
         ensures fails { self.new.fails ≡ self.old.fails }
     {
-        self.faults = self.faults.saturating_add(1);
+        self.faults = raised(self.faults);
     }
 
     /// Makes the next call: it fails where its number is listed, and the fault is counted.

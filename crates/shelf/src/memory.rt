@@ -1,8 +1,11 @@
 //! A shelf, an entropy and a sink in memory. They tell everything, and the calls whose numbers they
 //! were given fail.
-ghost use Rattle.std.specs.Prelude.{◌≡◌, ◌↔◌, ◌++◌, [], drop, Some, IfSome};
+ghost use Rattle.std.specs.Prelude.{◌≡◌, ◌↔◌, ◌++◌, [], drop, true, false, Some, IfOk, IfSome, IsErrOf};
 ghost use Rattle.std.specs.FinMap as map;
-ghost use Rattle.shelf.specs.Memory.{held_in, schedule_of};
+ghost use Rattle.std.specs.Option.{option_map};
+ghost use Rattle.shelf.specs.Held.{Put, Remove, after_change};
+ghost use Rattle.shelf.specs.Causes.{HasCause, Makes, Follows};
+ghost use Rattle.shelf.specs.Memory.{held_in, schedule_of, makes_failing};
 
 use crate::calls::Calls;
 use crate::fault::{EntropyFault, OutsideFault};
@@ -13,25 +16,68 @@ use std::collections::BTreeMap;
 /// A shelf in memory.
 ///
 /// Its calls of `get`, `put` and `remove` are numbered together from 0, and those whose numbers
-/// are in its list answer `Failed` and change nothing.
+/// are in its list answer `Failed`. A failing change of a shelf from `new` changes nothing. One of
+/// a shelf from `made` is made all the same, as by a disk that is lost before it answers.
 #[derive(Drop)]
 pub struct MemoryShelf {
     files: BTreeMap<String, Vec<u8>>,
     calls: Calls,
+    makes_failing: bool,
 }
 
 impl MemoryShelf {
-    /// A shelf that holds nothing. The calls with the numbers in `fails` will fail.
+    /// A shelf that holds nothing. The calls with the numbers in `fails` will fail and change
+    /// nothing.
     pub fn new(alloc: Global, fails: Vec<u64>) -> Self
         ensures held { ⟦<MemoryShelf as Shelf>⟧.held result ≡ Some map.empty }
         ensures faults { ⟦<MemoryShelf as Shelf>⟧.fault_count result ≡ 0 }
         ensures calm { ⟦<MemoryShelf as Shelf>⟧.calm result ↔ (fails.items ≡ []) }
         ensures schedule { ⟦<MemoryShelf as Shelf>⟧.schedule result ≡ Some (record { fails = fails.items; made = 0 }) }
+        ensures keeps { makes_failing result ≡ false }
     {
         MemoryShelf {
             files: BTreeMap::new(alloc),
             calls: Calls::new(fails),
+            makes_failing: false,
         }
+    }
+
+    /// A shelf that holds nothing. The calls with the numbers in `fails` will fail: a `put` or a
+    /// `remove` among them makes its whole change and then answers `Failed`.
+    pub fn made(alloc: Global, fails: Vec<u64>) -> Self
+        ensures held { ⟦<MemoryShelf as Shelf>⟧.held result ≡ Some map.empty }
+        ensures faults { ⟦<MemoryShelf as Shelf>⟧.fault_count result ≡ 0 }
+        ensures calm { ⟦<MemoryShelf as Shelf>⟧.calm result ↔ (fails.items ≡ []) }
+        ensures schedule { ⟦<MemoryShelf as Shelf>⟧.schedule result ≡ Some (record { fails = fails.items; made = 0 }) }
+        ensures makes { makes_failing result ≡ true }
+    {
+        MemoryShelf {
+            files: BTreeMap::new(alloc),
+            calls: Calls::new(fails),
+            makes_failing: true,
+        }
+    }
+
+    /// Gives the name these bytes, and counts no call.
+    fn hold(&mut self, alloc: Global, name: &str, bytes: &[u8]) -> Result<(), OutsideFault>
+        ensures made { Makes (Put name.now bytes.now) (⟦<MemoryShelf as Shelf>⟧.held self.old) (⟦<MemoryShelf as Shelf>⟧.held self.new) result }
+        ensures memory { IsErrOf result OutsideFault.Failed → ⊥ }
+        ensures calls { self.new.calls ≡ self.old.calls }
+        ensures kind { makes_failing self.new ≡ makes_failing self.old }
+    {
+        let name = String::from_str(alloc, name)?;
+        let bytes = bytes.to_vec(alloc)?;
+        self.files.insert(name, bytes)?;
+        Ok(())
+    }
+
+    /// Takes the name away, and counts no call.
+    fn take_away(&mut self, name: &str)
+        ensures gone { ⟦<MemoryShelf as Shelf>⟧.held self.new ≡ option_map (after_change (Remove name.now)) (⟦<MemoryShelf as Shelf>⟧.held self.old) }
+        ensures calls { self.new.calls ≡ self.old.calls }
+        ensures kind { makes_failing self.new ≡ makes_failing self.old }
+    {
+        self.files.remove(name);
     }
 
     /// How many names are held.
@@ -57,7 +103,15 @@ impl Shelf for MemoryShelf {
         self.calls.faults
     }
 
-    fn get(&mut self, alloc: Global, name: &str) -> Result<Option<Vec<u8>>, OutsideFault> {
+    fn get(&mut self, alloc: Global, name: &str) -> Result<Option<Vec<u8>>, OutsideFault>
+        ensures found { IfOk result (λ found. IfSome (⟦<MemoryShelf as Shelf>⟧.held self.old) (λ files.
+            option_map (λ bytes. bytes.items) found ≡ map.get files name.now)) }
+        ensures held { ⟦<MemoryShelf as Shelf>⟧.held self.new ≡ ⟦<MemoryShelf as Shelf>⟧.held self.old }
+        ensures cause { HasCause (⟦<MemoryShelf as Shelf>⟧.fault_count self.old) (⟦<MemoryShelf as Shelf>⟧.fault_count self.new) result }
+        ensures scheduled { Follows (⟦<MemoryShelf as Shelf>⟧.schedule self.old) (⟦<MemoryShelf as Shelf>⟧.schedule self.new) result }
+        ensures calm { ⟦<MemoryShelf as Shelf>⟧.calm self.old → ⟦<MemoryShelf as Shelf>⟧.calm self.new }
+        ensures kind { makes_failing self.new ≡ makes_failing self.old }
+    {
         self.calls.next()?;
         match self.files.get(name) {
             None => Ok(None),
@@ -65,18 +119,40 @@ impl Shelf for MemoryShelf {
         }
     }
 
-    fn put(&mut self, alloc: Global, name: &str, bytes: &[u8]) -> Result<(), OutsideFault> {
-        self.calls.next()?;
-        let name = String::from_str(alloc, name)?;
-        let bytes = bytes.to_vec(alloc)?;
-        self.files.insert(name, bytes)?;
-        Ok(())
+    /// A failing call of a shelf from `made` changes nothing where memory runs out in it.
+    fn put(&mut self, alloc: Global, name: &str, bytes: &[u8]) -> Result<(), OutsideFault>
+        ensures made { Makes (Put name.now bytes.now) (⟦<MemoryShelf as Shelf>⟧.held self.old) (⟦<MemoryShelf as Shelf>⟧.held self.new) result }
+        ensures cause { HasCause (⟦<MemoryShelf as Shelf>⟧.fault_count self.old) (⟦<MemoryShelf as Shelf>⟧.fault_count self.new) result }
+        ensures scheduled { Follows (⟦<MemoryShelf as Shelf>⟧.schedule self.old) (⟦<MemoryShelf as Shelf>⟧.schedule self.new) result }
+        ensures calm { ⟦<MemoryShelf as Shelf>⟧.calm self.old → ⟦<MemoryShelf as Shelf>⟧.calm self.new }
+        ensures kind { makes_failing self.new ≡ makes_failing self.old }
+        ensures failing_keeps { makes_failing self.old ≡ false → IsErrOf result OutsideFault.Failed → ⟦<MemoryShelf as Shelf>⟧.held self.new ≡ ⟦<MemoryShelf as Shelf>⟧.held self.old }
+    {
+        match self.calls.next() {
+            Ok(()) => self.hold(alloc, name, bytes),
+            Err(fault) => {
+                if self.makes_failing {
+                    let _ = self.hold(alloc, name, bytes);
+                }
+                Err(fault)
+            }
+        }
     }
 
-    fn remove(&mut self, _alloc: Global, name: &str) -> Result<(), OutsideFault> {
-        self.calls.next()?;
-        self.files.remove(name);
-        Ok(())
+    fn remove(&mut self, _alloc: Global, name: &str) -> Result<(), OutsideFault>
+        ensures made { Makes (Remove name.now) (⟦<MemoryShelf as Shelf>⟧.held self.old) (⟦<MemoryShelf as Shelf>⟧.held self.new) result }
+        ensures cause { HasCause (⟦<MemoryShelf as Shelf>⟧.fault_count self.old) (⟦<MemoryShelf as Shelf>⟧.fault_count self.new) result }
+        ensures scheduled { Follows (⟦<MemoryShelf as Shelf>⟧.schedule self.old) (⟦<MemoryShelf as Shelf>⟧.schedule self.new) result }
+        ensures calm { ⟦<MemoryShelf as Shelf>⟧.calm self.old → ⟦<MemoryShelf as Shelf>⟧.calm self.new }
+        ensures kind { makes_failing self.new ≡ makes_failing self.old }
+        ensures failing_keeps { makes_failing self.old ≡ false → IsErrOf result OutsideFault.Failed → ⟦<MemoryShelf as Shelf>⟧.held self.new ≡ ⟦<MemoryShelf as Shelf>⟧.held self.old }
+        ensures failing_makes { makes_failing self.old ≡ true → IsErrOf result OutsideFault.Failed → ⟦<MemoryShelf as Shelf>⟧.held self.new ≡ option_map (after_change (Remove name.now)) (⟦<MemoryShelf as Shelf>⟧.held self.old) }
+    {
+        let called = self.calls.next();
+        if called.is_ok() || self.makes_failing {
+            self.take_away(name);
+        }
+        called
     }
 }
 

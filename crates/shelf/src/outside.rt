@@ -3,7 +3,8 @@ ghost use Rattle.std.specs.Prelude.{◌≡◌, ◌≤◌, ℕ, List, Option, Non
 ghost use Rattle.std.specs.Option.{option_map};
 ghost use Rattle.std.specs.FinMap as map;
 ghost use Rattle.shelf.specs.Held.{Held, Put, Remove};
-ghost use Rattle.shelf.specs.Causes.{HasCause, Makes, Appends, Takes, HasMore, Rose, Schedule, Follows, Fills};
+ghost use Rattle.shelf.specs.Causes.{HasCause, Makes, Appends, Takes, HasMore, Schedule, Follows, Fills};
+ghost use Rattle.counters.specs.Counts.{Rose};
 
 use crate::fault::{EntropyFault, OutsideFault};
 use std::alloc::Global;

@@ -130,6 +130,25 @@ fn the_calls_with_listed_numbers_fail(rt: HostRuntime) -> Result<(), Fail> {
 }
 
 #[test]
+fn a_failing_change_is_made_all_the_same(rt: HostRuntime) -> Result<(), Fail> {
+    let alloc = rt.alloc();
+    let mut shelf = MemoryShelf::made(alloc, [0, 1, 3].to_vec(alloc)?);
+    assert!(rt;
+        shelf.put(alloc, "a", b"1") == Err(OutsideFault::Failed),
+        "call 0"
+    );
+    assert!(rt; shelf.get(alloc, "a").is_err(), "call 1");
+    let found = shelf.get(alloc, "a")?;
+    assert!(rt; found.is_some_and(|bytes| bytes.as_slice() == b"1".as_slice()));
+    assert!(rt;
+        shelf.remove(alloc, "a") == Err(OutsideFault::Failed),
+        "call 3"
+    );
+    assert_eq!(rt; (shelf.faults(), shelf.len()), (3, 0));
+    Ok(())
+}
+
+#[test]
 fn a_stream_gets_all_bytes(rt: HostRuntime) -> Result<(), Fail> {
     let mut bytes = Vec::new(rt.alloc());
     let mut sink = OutSink::new(&mut bytes);
