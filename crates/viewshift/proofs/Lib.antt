@@ -2,3 +2,10 @@ pub mod Standing
 pub mod Leaving
 pub mod Naming
 pub mod Judging
+pub mod Meeting
+pub mod Keys
+pub mod Sights
+pub mod Parts
+pub mod Others
+pub mod Back
+pub mod Choosing

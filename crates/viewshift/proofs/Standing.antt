@@ -8,8 +8,9 @@ use Rattle.sizes.specs.Committees.{IsCommittee}
 use Rattle.talk.specs.Shape.{Lawful, rounds}
 use Rattle.plays.specs.Play.{Play}
 use Rattle.moveshare.specs.Seat.{IsMoving}
+use Rattle.periods.specs.Laws.{LieOn}
 use Rattle.histories61.specs.Phases.{Kind, Created, Refreshed, Moved, FirstFits, NextFits}
-use Rattle.histories61.specs.Course.{Course, next_share, share_after_phase, PhaseFits, FitsTo}
+use Rattle.histories61.specs.Course.{Course, next_share, share_after_phase, PhaseFits, FitsTo, IsPeriodPolynomial}
 use Rattle.histories61.proofs.Fits.{is_move, committee_at}
 use Rattle.histories61.proofs.Making.{phases_fit_together}
 use Rattle.playback.specs.declared.phase.Phase.{Phase}
@@ -139,22 +140,26 @@ all_there phases (suc k) old shares some e at =
 
 -- ---- the law
 -- who is exposed doesn't matter to the shares
-same_shares : (phases : List Phase) (exposed : List ℕ) (errors : ℕ → List (List Fp)) (k : ℕ) → share_after_phase (course_of phases []) errors k ≡ share_after_phase (course_of phases exposed) errors k
-same_shares phases exposed errors zero = refl
-same_shares phases exposed errors (suc k) =
+same_shares : (phases : List Phase) (some more : List ℕ) (errors : ℕ → List (List Fp)) (k : ℕ) → share_after_phase (course_of phases some) errors k ≡ share_after_phase (course_of phases more) errors k
+same_shares phases some more errors zero = refl
+same_shares phases some more errors (suc k) =
     ap (λ (share : ℕ → ℕ → Fp). λ (lane receiver : ℕ). next_share (kind_of (phase_at phases (suc k)).kind) (play_of (phase_at phases (suc k))) lane (get_or (errors (suc k)) lane []) receiver (share lane receiver))
-    (same_shares phases exposed errors k)
+    (same_shares phases some more errors k)
 
-fits_same : (phases : List Phase) (exposed : List ℕ) (errors : ℕ → List (List Fp)) (k : ℕ) → PhaseFits (course_of phases []) errors k → PhaseFits (course_of phases exposed) errors k
-fits_same phases exposed errors zero f = f
-fits_same phases exposed errors (suc k) f =
-    subst (NextFits (kind_of (phase_at phases (suc k)).kind) (play_of (phase_at phases k)) (play_of (phase_at phases (suc k)))) (same_shares phases exposed errors k) f
+pub fits_same : (phases : List Phase) (some more : List ℕ) (errors : ℕ → List (List Fp)) (k : ℕ) → PhaseFits (course_of phases some) errors k → PhaseFits (course_of phases more) errors k
+fits_same phases some more errors zero f = f
+fits_same phases some more errors (suc k) f =
+    subst (NextFits (kind_of (phase_at phases (suc k)).kind) (play_of (phase_at phases k)) (play_of (phase_at phases (suc k)))) (same_shares phases some more errors k) f
 
-with_masks : (phases : List Phase) (exposed : List ℕ) (errors : ℕ → List (List Fp)) (n : ℕ) → FitsTo (course_of phases []) errors n → FitsTo (course_of phases exposed) errors n
-with_masks phases exposed errors n fits = record {
-  phases_fit = λ k lt. fits_same phases exposed errors k (fits.phases_fit k lt);
+pub with_masks : (phases : List Phase) (some more : List ℕ) (errors : ℕ → List (List Fp)) (n : ℕ) → FitsTo (course_of phases some) errors n → FitsTo (course_of phases more) errors n
+with_masks phases some more errors n fits = record {
+  phases_fit = λ k lt. fits_same phases some more errors k (fits.phases_fit k lt);
   have_errors = λ k lt e. fits.have_errors k lt e;
 }
+
+pub polynomial_with_masks : (phases : List Phase) (some more : List ℕ) (errors : ℕ → List (List Fp)) (k lane : ℕ) (polynomial : List Fp) → IsPeriodPolynomial (course_of phases some) errors k lane polynomial → IsPeriodPolynomial (course_of phases more) errors k lane polynomial
+polynomial_with_masks phases some more errors k lane polynomial is =
+    subst (λ (share : ℕ → ℕ → Fp). LieOn (play_of (phase_at phases k)) (phase_at phases k).setting.bound (share lane) polynomial) (same_shares phases some more errors k) is
 
 pub lists_are_history : ListsAreHistory
 lists_are_history phases exposed are =
@@ -162,7 +167,7 @@ lists_are_history phases exposed are =
       got.0,
       record {
         some_phase = are.phases_fit.0;
-        fits = with_masks phases exposed got.0 (length phases) got.1;
+        fits = with_masks phases [] exposed got.0 (length phases) got.1;
         exposed_fit = λ k lt. record { own = (are.masks.masks_fit k lt).names_few.exposure; next = (are.masks.masks_fit k lt).has_next };
       },
     )

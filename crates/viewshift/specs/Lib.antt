@@ -4,3 +4,7 @@ pub mod Constants
 pub mod Fits
 pub mod Walk
 pub mod Kept
+pub mod Through
+pub mod Key
+pub mod Seen
+pub mod Others

@@ -72,12 +72,34 @@ impl History {
         Ok(History { phases, exposed })
     }
 
+    // The history of lists that are known to be one.
+    pub(crate) fn known(phases: PhaseList, exposed: Vec<u32>) -> History
+        requires { AreHistory phases exposed.items }
+        ensures { result ≡ record { phases = phases; exposed = exposed.items } }
+    {
+        History { phases, exposed }
+    }
+
+    // The masks.
+    pub(crate) fn masks(&self) -> &[u32]
+        ensures { result.now ≡ self.now.exposed }
+    {
+        self.exposed.as_slice()
+    }
+
     /// The phases.
     pub fn phases(&self) -> &PhaseList
         ensures is { result.now ≡ self.now.phases }
         ensures history { AreHistory self.now.phases self.now.exposed }
     {
         &self.phases
+    }
+
+    // The mask of the period that the phase at a place begins.
+    pub(crate) fn mask_after(&self, place: usize) -> u32
+        ensures { result ≡ mask_at self.now.exposed place }
+    {
+        mask_at(self.exposed.as_slice(), place)
     }
 
     /// The mask of a period, counted from 1; 0 where it has none.

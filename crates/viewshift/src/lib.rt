@@ -1,13 +1,25 @@
-//! Histories of a key: which recorded phases, with a mask for each period, are one.
+//! Histories of a key: which recorded phases, with a mask for each period, are one; its key, what is seen of it, and other
+//! choices with any wished key of which the same is seen.
 #![tactic(auto)]
 
+mod choices;
+#[cfg(test)]
+mod choices_tests;
 mod fitting;
 mod history;
+mod key;
 pub mod laws;
+#[cfg(test)]
+mod lives;
 mod masks;
 mod phases;
+mod polynomials;
 #[cfg(test)]
 mod tests;
+mod views;
 
+pub use choices::other_choices;
 pub use history::{History, HistoryFault};
+pub use key::key_of;
 pub use playback::{Phase, PhaseKind, PhaseList, SaidItem, SaidList};
+pub use views::{Views, views_of};
