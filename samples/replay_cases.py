@@ -13,7 +13,8 @@ published or worked out by hand, and says whether they come out.
 
 Nothing here is taken from the product: ChaCha20 is written from RFC 8439, SHA-256 and HMAC are Python's, a decoder tries
 the polynomials through each few points, the errors of a move are found by trying each few places, and a phase is played
-seat by seat by the rules of the sharing. The same input gives the same output on each machine.
+seat by seat by the rules of the sharing. The same input gives the same output on each machine. A case in which a seat posts
+late is left out, and only seats that pass, or that aren't there, are cut: who is heard would hang on how the threads run.
 """
 
 import hashlib
@@ -686,18 +687,19 @@ def play(setting, seats, drill):
 
 
 class World:
-    """A shelf, an entropy and a sink, whose calls with listed numbers fail and then change nothing."""
+    """A shelf, an entropy, a crew and a sink, whose calls with listed numbers fail and then change nothing."""
 
     def __init__(self, held, seeds, fails):
         self.held, self.seeds, self.told = dict(held), list(seeds), ""
         self.fails = {kind: set(numbers) for kind, numbers in fails.items()}
-        self.calls = {"shelf": 0, "entropy": 0, "sink": 0}
+        self.calls = {"shelf": 0, "entropy": 0, "crew": 0, "sink": 0}
+        self.late = False
 
     def call(self, kind, code):
         number = self.calls[kind]
         self.calls[kind] += 1
         if number in self.fails.get(kind, ()):
-            raise Refused(code, kind)
+            raise Refused(code, "thread" if kind == "crew" else kind)
 
     def get(self, name):
         self.call("shelf", 10)
@@ -716,6 +718,12 @@ class World:
         if not self.seeds:
             raise Refused(11, "entropy")
         return self.seeds.pop(0)
+
+    def start(self, setting, drill):
+        """A thread for each seat of a phase. Whether a seat is heard that posts late hangs on how they run."""
+        for _ in range(setting.seats):
+            self.call("crew", 12)
+        self.late = any(line[0] == "late" for line in drill.values())
 
     def put_out(self, text):
         self.call("sink", 13)
@@ -836,6 +844,7 @@ def create(world, name, n, t, drill_name=None):
     setting = create_setting(n, t)
     drill = drill_held(world, drill_name, setting, [(range(1, n + 1), t)])
     seats = {me: Seat(setting, me, drawn_grids(world.seed(), t)) for me in range(1, n + 1)}
+    world.start(setting, drill)
     masks = play(setting, seats, drill)
     sound = undrilled(drill, seats)
     now = name, n, t, 1, 0, link_of(name, n, t, 1, mask_of(sound))
@@ -878,6 +887,7 @@ def refresh(world, name, drill_name=None):
     seats = {
         me: Seat(before.setting, me, drawn_grids(seed, before.setting.degree)) for me, seed in before.seeds.items()
     }
+    world.start(before.setting, before.drill)
     masks = play(before.setting, seats, before.drill)
     shares = {
         me: [(old + me * dealt) % P for old, dealt in zip(before.lanes[me], seats[me].shares())]
@@ -911,6 +921,7 @@ def moved_shares(before, seat, errors):
 def move(world, name, m, u, drill_name=None):
     before = Before(world, name, drill_name, lambda n, t: move_setting(n, t, m, u), (m, u))
     n, seats = before.n, moved_seats(before)
+    world.start(before.setting, before.drill)
     masks = play(before.setting, seats, before.drill)
     sound = undrilled(before.drill, range(n + 1, n + m + 1))
     first, errors = seats[sound[0]], []
@@ -1016,6 +1027,7 @@ def digits(data):
 class Case:
     def __init__(self, label, words, held=None, seeds=(), **fails):
         self.label, self.words = label, words.split()
+        self.cut = fails.pop("cut", ())
         self.held, self.seeds, self.fails = dict(held or {}), list(seeds), fails
 
     def features(self):
@@ -1034,9 +1046,10 @@ class Case:
         texts = [f"case {self.label}", " ".join(["words"] + self.words)]
         texts += [f"seed {seed.hex()}" for seed in self.seeds]
         texts += [f"held {name} {digits(data)}" for name, data in self.held.items()]
-        for kind in ("shelf", "entropy", "sink"):
+        for kind in ("shelf", "entropy", "crew", "sink"):
             if kind in self.fails:
                 texts.append(" ".join([kind + "_fails"] + [str(number) for number in self.fails[kind]]))
+        texts += [f"cut {round_number} {seat}" for round_number, seat in self.cut]
         return texts + ["end"]
 
     def ending(self):
@@ -1046,6 +1059,12 @@ class Case:
         texts += ["text " + text for text in world.told.splitlines()]
         texts += [f"held {name} {digits(world.held[name])}" for name in sorted(world.held, key=str.encode)]
         return texts + [f"left {len(world.seeds)}", "end"]
+
+    def hangs_on_the_schedule(self):
+        """Whether a seat posts late in its phase: who is heard may then differ from run to run."""
+        world = World(self.held, self.seeds, self.fails)
+        run(world, self.words)
+        return world.late
 
     def after(self):
         """What is held after the command."""
@@ -1469,6 +1488,12 @@ def create_cases():
     yield Case("create_entropy_fails_later", words, None, seeds + seeds, entropy=[4, 5, 7])
     for number in (0, 1, 7, 15, 16, 17, 19, 20, 21):
         yield Case(f"create_shelf_fails_{number}", words, left, seeds, shelf=[number])
+    for number in range(5):
+        yield Case(f"create_crew_fails_{number}", words, left, seeds, crew=[number])
+    yield Case("create_entropy_and_crew_fail", words, None, seeds, entropy=[3], crew=[0])
+    yield Case("create_crew_and_shelf_fail", words, None, seeds, shelf=[1], crew=[2])
+    yield Case("create_cut_of_no_seat", words, None, seeds, cut=[(1, 0), (1, 5), (6, 1), (0, 1), (2**32 - 1, 2**32 - 1)])
+    yield Case("create_exists_where_crew_fails", words, {"k1.now": b"x"}, seeds, crew=[0])
     yield Case("create_sink_fails_0", words, left, seeds, sink=[0])
     yield Case("create_sink_fails_1", words, None, seeds, sink=[1])
     yield Case("create_shelf_and_sink_fail", words, None, seeds, shelf=[20], sink=[0])
@@ -1539,6 +1564,7 @@ def drill_cases():
     yield drilled("13_four", 13, 4, "1 1 skew 3", "4 3 accuse 1", "8 5 veto", "12 2 garble", "12 4 silent")
     words, held = "create k1 4 1 d", {"d": b"2 1 skew 5\n"}
     seeds = seeds_for("drill 4 1", 4)
+    yield Case("drill_cut_where_it_is_silent", words, {"d": b"2 1 skew 5\n2 4 silent\n"}, seeds, cut=[(4, 2), (5, 2)])
     yield Case("drill_no_last_line_feed", words, {"d": b"3 5 veto"}, seeds)
     yield Case("drill_check_after_skew", "check k1", Case("", words, held, seeds).after())
     yield Case("drill_recover_after_skew", "recover k1", Case("", words, held, seeds).after())
@@ -1778,6 +1804,8 @@ def step_cases(words, label, rounds):
     held = {**stray_files(3), **key.files}
     yield Case(f"{label}_removes_what_was_left", words, held, seeds)
     yield Case(f"{label}_sink_fails_0", words, held, seeds, sink=[0])
+    for number in (0, 3, 30):
+        yield Case(f"{label}_crew_fails_{number}", words, held, seeds, crew=[number])
     # The calls: the now file, four share files, 30 removals, four puts, the now file, 15 removals.
     for number in (0, 1, 4, 5, 19, 20, 34, 35, 38, 39, 40, 54, 55):
         yield Case(f"{label}_shelf_fails_{number}", words, held, seeds, shelf=[number])
@@ -1965,13 +1993,15 @@ def worked_moves():
 
 def move_fault_cases():
     """A move of 4 members to 5 with a drill, whose every call of the shelf fails once: the now file, four share files, the
-    drill, 30 removals, four puts, the now file, 15 removals. And an entropy and a sink that fail."""
+    drill, 30 removals, four puts, the now file, 15 removals. And an entropy, a crew and a sink that fail."""
     held = {**tied_key(4, 1).files, "k1.2.3.share": b"left", "k1.4.5.share": b"left", "d": b"2 1 wrong 5\n9 6 skew 1\n"}
     words, seeds = "move k1 5 1 d", seeds_for("move", 4)
     for number in range(57):
         yield Case(f"move_drilled_shelf_fails_{number}", words, held, seeds, shelf=[number])
     for number in range(5):
         yield Case(f"move_drilled_entropy_fails_{number}", words, held, seeds, entropy=[number])
+    for number in (0, 4, 8, 9):
+        yield Case(f"move_drilled_crew_fails_{number}", words, held, seeds, crew=[number])
     for number in range(2):
         yield Case(f"move_drilled_sink_fails_{number}", words, held, seeds, sink=[number])
     yield Case("move_no_seeds", "move k1 5 1", tied_key(4, 1).files)
@@ -2310,7 +2340,8 @@ def main(arguments):
     if len(arguments) != 2 or not without <= FEATURES:
         print(__doc__, file=sys.stderr)
         return 2
-    cases = [case for case in all_cases() if not case.features() & without and only in case.label]
+    wanted = (case for case in all_cases() if not case.features() & without and only in case.label)
+    cases = [case for case in wanted if not case.hangs_on_the_schedule()]
     for path, part in zip(arguments, (Case.given, Case.ending)):
         with open(path, "w", encoding="utf-8", newline="\n") as out:
             out.write("".join(lines(part(case)) for case in cases))

@@ -1,15 +1,15 @@
 -- The steps of a plan: what asks the shelf, then what takes seeds.
-use Rattle.std.proofs.Common.{◌≡◌, ◌≤◌, ℕ, List, [], ◌∷◌, length, Option, Some, None, Result, Ok, Err, refl, sym, ap, subst, arith}
+use Rattle.std.proofs.Common.{◌≡◌, ◌≤◌, ℕ, List, [], ◌∷◌, length, Option, Some, None, Result, Ok, Err, inr, refl, sym, ap, subst, arith}
 use Rattle.std.specs.Prelude.{IfSome, IfErr}
 use Rattle.shelf.specs.Held.{Held}
 use Rattle.talk.specs.Shape.{create_shape}
 use Rattle.keyroom.specs.declared.plan.Plan.{Plan}
 use Rattle.keyroom.specs.declared.status.Status.{Status}
-use Rattle.keyroom.specs.Causes.{Cause, Done, Refusal, Shelf, Entropy, Sink, Memory, cause_of, IsOfPlan, IsFromPlan}
+use Rattle.keyroom.specs.Causes.{Cause, Done, Refusal, Shelf, Entropy, Crew, Sink, Memory, cause_of, IsOfPlan, IsFromPlan}
 use Rattle.keyroom.specs.Words.{Command, Create, Refresh, Move}
 use Rattle.keyroom.specs.Outcome.{Outcome, refused, ThenDo}
-use Rattle.committee.specs.Answer.{PlansWith}
-use Rattle.committee.specs.Causes.{before_text, IsFromCommand, IsOfEntropy, IsFromEntropy, IsOfWork, IsFromWork, IsOfSeeds, IsFromSeeds}
+use Rattle.committee.specs.Answer.{Took, StopsBefore, PlansWith}
+use Rattle.committee.specs.Causes.{before_text, IsFromCommand, IsOfEntropy, IsFromEntropy, IsOfCrew, IsFromCrew, IsOfPhase, IsFromPhase, IsOfSeeds, IsFromSeeds}
 use Rattle.committee.specs.Create.{Creates, create_asked}
 use Rattle.committee.specs.Refresh.{Refreshes, refresh_asked}
 use Rattle.committee.specs.Move.{Moves, move_asked}
@@ -23,6 +23,7 @@ plan_undone Done by e = by
 plan_undone Refusal by e = cc
 plan_undone Shelf by e = cc
 plan_undone Entropy by e = by
+plan_undone Crew by e = by
 plan_undone Sink by e = by
 plan_undone Memory by e = cc
 
@@ -31,27 +32,41 @@ plan_no_entropy Done by e = by
 plan_no_entropy Refusal by e = cc
 plan_no_entropy Shelf by e = cc
 plan_no_entropy Entropy by e = by
+plan_no_entropy Crew by e = by
 plan_no_entropy Sink by e = by
 plan_no_entropy Memory by e = cc
+
+plan_no_crew : (c : Cause) → IsOfPlan c → c ≡ Crew → ⊥
+plan_no_crew Done by e = by
+plan_no_crew Refusal by e = cc
+plan_no_crew Shelf by e = cc
+plan_no_crew Entropy by e = by
+plan_no_crew Crew by e = by
+plan_no_crew Sink by e = by
+plan_no_crew Memory by e = cc
 
 plan_no_sink : (c : Cause) → IsOfPlan c → c ≡ Sink → ⊥
 plan_no_sink Done by e = by
 plan_no_sink Refusal by e = cc
 plan_no_sink Shelf by e = cc
 plan_no_sink Entropy by e = by
+plan_no_sink Crew by e = by
 plan_no_sink Sink by e = by
 plan_no_sink Memory by e = cc
 
 -- a plan that takes no seeds refused
-pub from_plan : {X : Type 0} (shelf now entropy later : ℕ) (r : Result X Status) → shelf ≤ now → entropy ≤ later → IfErr r (λ s. IsFromPlan shelf now s) → IfErr r (λ s. IsFromCommand (before_text shelf entropy) (before_text now later) s)
-from_plan shelf now entropy later (Ok x) le lt h = tt
-from_plan shelf now entropy later (Err s) le lt h = record {
+pub from_plan : {X : Type 0} (shelf now entropy later crew worked : ℕ) (r : Result X Status) → shelf ≤ now → entropy ≤ later → crew ≤ worked → IfErr r (λ s. IsFromPlan shelf now s) →
+    IfErr r (λ s. IsFromCommand (before_text shelf entropy crew) (before_text now later worked) s)
+from_plan shelf now entropy later crew worked (Ok x) le lt lc h = tt
+from_plan shelf now entropy later crew worked (Err s) le lt lc h = record {
   counted = record {
     shelf_later = le;
     entropy_later = lt;
+    crew_later = lc;
     sink_later = omega arith;
     shelf = h.shelf;
     entropy = λ e. absurd (plan_no_entropy (cause_of s) h.by e);
+    crew = λ e. absurd (plan_no_crew (cause_of s) h.by e);
     sink = λ e. absurd (plan_no_sink (cause_of s) h.by e);
   };
   undone = λ e. plan_undone (cause_of s) h.by e;
@@ -63,6 +78,7 @@ seeds_undone Done by e = by
 seeds_undone Refusal by e = cc
 seeds_undone Shelf by e = by
 seeds_undone Entropy by e = cc
+seeds_undone Crew by e = cc
 seeds_undone Sink by e = by
 seeds_undone Memory by e = cc
 
@@ -71,6 +87,7 @@ seeds_no_shelf Done by e = by
 seeds_no_shelf Refusal by e = cc
 seeds_no_shelf Shelf by e = by
 seeds_no_shelf Entropy by e = cc
+seeds_no_shelf Crew by e = cc
 seeds_no_shelf Sink by e = by
 seeds_no_shelf Memory by e = cc
 
@@ -79,56 +96,90 @@ seeds_no_sink Done by e = by
 seeds_no_sink Refusal by e = cc
 seeds_no_sink Shelf by e = by
 seeds_no_sink Entropy by e = cc
+seeds_no_sink Crew by e = cc
 seeds_no_sink Sink by e = by
 seeds_no_sink Memory by e = cc
 
 -- a step that took seeds refused, or the work behind it
-pub from_seeds : {X : Type 0} (shelf now entropy later : ℕ) (r : Result X Status) → shelf ≤ now → entropy ≤ later → IfErr r (λ s. IsFromSeeds entropy later s) → IfErr r (λ s. IsFromCommand (before_text shelf entropy) (before_text now later) s)
-from_seeds shelf now entropy later (Ok x) le lt h = tt
-from_seeds shelf now entropy later (Err s) le lt h = record {
+pub from_seeds : {X : Type 0} (shelf now entropy later crew worked : ℕ) (r : Result X Status) → shelf ≤ now → entropy ≤ later → crew ≤ worked → IfErr r (λ s. IsFromSeeds entropy later crew worked s) →
+    IfErr r (λ s. IsFromCommand (before_text shelf entropy crew) (before_text now later worked) s)
+from_seeds shelf now entropy later crew worked (Ok x) le lt lc h = tt
+from_seeds shelf now entropy later crew worked (Err s) le lt lc h = record {
   counted = record {
     shelf_later = le;
     entropy_later = lt;
+    crew_later = lc;
     sink_later = omega arith;
     shelf = λ e. absurd (seeds_no_shelf (cause_of s) h.by e);
     entropy = h.entropy;
+    crew = h.crew;
     sink = λ e. absurd (seeds_no_sink (cause_of s) h.by e);
   };
   undone = λ e. seeds_undone (cause_of s) h.by e;
   read = h.read;
 }
 
--- a step that only takes seeds refuses nothing
-entropy_seeds : (c : Cause) → IsOfEntropy c → IsOfSeeds c × (c ≡ Refusal → ⊥)
+-- a step that only takes seeds refuses nothing, and starts no thread
+entropy_seeds : (c : Cause) → IsOfEntropy c → IsOfSeeds c × (c ≡ Refusal → ⊥) × (c ≡ Crew → ⊥)
 entropy_seeds Done by = absurd by
 entropy_seeds Refusal by = absurd by
 entropy_seeds Shelf by = absurd by
-entropy_seeds Entropy by = (tt, λ (e : Entropy ≡ Refusal). cc)
+entropy_seeds Entropy by = (tt, (λ (e : Entropy ≡ Refusal). cc), λ (e : Entropy ≡ Crew). cc)
+entropy_seeds Crew by = absurd by
 entropy_seeds Sink by = absurd by
-entropy_seeds Memory by = (tt, λ (e : Memory ≡ Refusal). cc)
+entropy_seeds Memory by = (tt, (λ (e : Memory ≡ Refusal). cc), λ (e : Memory ≡ Crew). cc)
 
-pub seeds_of_entropy : {X : Type 0} (entropy later : ℕ) (r : Result X Status) → IfErr r (λ s. IsFromEntropy entropy later s) → IfErr r (λ s. IsFromSeeds entropy later s)
-seeds_of_entropy entropy later (Ok x) h = tt
-seeds_of_entropy entropy later (Err s) h =
+pub seeds_of_entropy : {X : Type 0} (entropy later crew worked : ℕ) (r : Result X Status) → IfErr r (λ s. IsFromEntropy entropy later s) → IfErr r (λ s. IsFromSeeds entropy later crew worked s)
+seeds_of_entropy entropy later crew worked (Ok x) h = tt
+seeds_of_entropy entropy later crew worked (Err s) h =
     let by = entropy_seeds (cause_of s) h.by in
-    record { entropy = h.entropy; by = by.0; read = λ e. by.1 (ap cause_of e) }
+    record { entropy = h.entropy; crew = λ e. absurd (by.2 e); by = by.0; read = λ e. by.1 (ap cause_of e) }
 
--- and work takes none
-work_seeds : (c : Cause) → IsOfWork c → IsOfSeeds c × (c ≡ Entropy → ⊥)
-work_seeds Done by = absurd by
-work_seeds Refusal by = (tt, λ (e : Refusal ≡ Entropy). cc)
-work_seeds Shelf by = absurd by
-work_seeds Entropy by = absurd by
-work_seeds Sink by = absurd by
-work_seeds Memory by = (tt, λ (e : Memory ≡ Entropy). cc)
+-- and a phase takes none
+phase_seeds : (c : Cause) → IsOfPhase c → IsOfSeeds c × (c ≡ Entropy → ⊥)
+phase_seeds Done by = absurd by
+phase_seeds Refusal by = (tt, λ (e : Refusal ≡ Entropy). cc)
+phase_seeds Shelf by = absurd by
+phase_seeds Entropy by = absurd by
+phase_seeds Crew by = (tt, λ (e : Crew ≡ Entropy). cc)
+phase_seeds Sink by = absurd by
+phase_seeds Memory by = (tt, λ (e : Memory ≡ Entropy). cc)
 
-pub seeds_of_work : (entropy later : ℕ) (s : Status) → IsFromWork s → IsFromSeeds entropy later s
-seeds_of_work entropy later s h =
-    let by = work_seeds (cause_of s) h.by in
-    record { entropy = λ e. absurd (by.1 e); by = by.0; read = h.read }
+pub seeds_of_phase : (entropy later crew worked : ℕ) (s : Status) → IsFromPhase crew worked s → IsFromSeeds entropy later crew worked s
+seeds_of_phase entropy later crew worked s h =
+    let by = phase_seeds (cause_of s) h.by in
+    record { entropy = λ e. absurd (by.1 e); crew = h.crew; by = by.0; read = h.read }
 
-pub from_entropy : {X : Type 0} (shelf now entropy later : ℕ) (r : Result X Status) → shelf ≤ now → entropy ≤ later → IfErr r (λ s. IsFromEntropy entropy later s) → IfErr r (λ s. IsFromCommand (before_text shelf entropy) (before_text now later) s)
-from_entropy shelf now entropy later r le lt h = from_seeds shelf now entropy later r le lt (seeds_of_entropy entropy later r h)
+-- a phase that doesn't refuse for what it finds
+crew_phase : (c : Cause) → IsOfCrew c → IsOfPhase c × (c ≡ Refusal → ⊥)
+crew_phase Done by = absurd by
+crew_phase Refusal by = absurd by
+crew_phase Shelf by = absurd by
+crew_phase Entropy by = absurd by
+crew_phase Crew by = (tt, λ (e : Crew ≡ Refusal). cc)
+crew_phase Sink by = absurd by
+crew_phase Memory by = (tt, λ (e : Memory ≡ Refusal). cc)
+
+pub phase_of_crew : (crew worked : ℕ) (s : Status) → IsFromCrew crew worked s → IsFromPhase crew worked s
+phase_of_crew crew worked s h =
+    let by = crew_phase (cause_of s) h.by in
+    record { crew = h.crew; by = by.0; read = λ e. by.1 (ap cause_of e) }
+
+pub seeds_of_crew : (entropy later crew worked : ℕ) (s : Status) → IsFromCrew crew worked s → IsFromSeeds entropy later crew worked s
+seeds_of_crew entropy later crew worked s h = seeds_of_phase entropy later crew worked s (phase_of_crew crew worked s h)
+
+-- it stops when all seeds were taken
+crew_stops : (means : Outcome → Type 0) (asks : ℕ → Type 0) (coming comes : Option (List (List ℕ))) (count : ℕ) (status : Status) (cause : Cause) → asks count → Took count coming comes → IsOfCrew cause → StopsBefore means asks coming comes status cause
+crew_stops means asks coming comes count status Done ask took by = absurd by
+crew_stops means asks coming comes count status Refusal ask took by = absurd by
+crew_stops means asks coming comes count status Shelf ask took by = absurd by
+crew_stops means asks coming comes count status Entropy ask took by = absurd by
+crew_stops means asks coming comes count status Crew ask took by = (count, ask, took)
+crew_stops means asks coming comes count status Sink ask took by = absurd by
+crew_stops means asks coming comes count status Memory ask took by = inr (count, ask, (count, omega arith, took))
+
+pub crew_refused : (means : Outcome → Type 0) (asks : ℕ → Type 0) (coming comes : Option (List (List ℕ))) (count crew worked : ℕ) (s : Status) → asks count → Took count coming comes → IsFromCrew crew worked s → PlansWith means asks coming comes (Err s)
+crew_refused means asks coming comes count crew worked s ask took from = crew_stops means asks coming comes count s (cause_of s) ask took from.by
 
 at_most : (coming : Option (List (List ℕ))) (few many : ℕ) → few ≤ many → IfSome coming (λ seeds. many ≤ length seeds) → IfSome coming (λ seeds. few ≤ length seeds)
 at_most None few many le h = tt
@@ -136,31 +187,31 @@ at_most (Some seeds) few many le h = omega (arith, le, h)
 
 -- ---- a command with a phase
 -- The steps before the seeds ask the shelf alone; the rest of the meaning is told of what they give, and takes so many seeds.
-pub record Phased {A : Type 0} (command : Command) (asked : Held → Result A Status) (next : Option (List (List ℕ)) → List ℕ → A → Outcome → Type 0) (count : A → ℕ) : Type 0 where
-  pub means : (given : Given) (masks : List (List ℕ)) (o : Outcome) → ThenDo (asked given.held) (next given.coming (of_phase masks 0)) o → MeansCommand command given masks o
+pub record Phased {A : Type 0} (command : Command) (asked : Held → Result A Status) (next : Option (List (List ℕ)) → (ℕ → ℕ) → List ℕ → A → Outcome → Type 0) (count : A → ℕ) : Type 0 where
+  pub means : (given : Given) (masks : List (List ℕ)) (o : Outcome) → ThenDo (asked given.held) (next given.coming given.cuts (of_phase masks 0)) o → MeansCommand command given masks o
   pub takes : (held : Held) (a : A) → asked held ≡ Ok a → TakesSeeds command held (count a)
 
-module _ {A : Type 0} (command : Command) (asked : Held → Result A Status) (next : Option (List (List ℕ)) → List ℕ → A → Outcome → Type 0) (count : A → ℕ) (phased : Phased command asked next count) where
-  phase_means : (held : Held) (coming : Option (List (List ℕ))) (a : A) → asked held ≡ Ok a → (o : Outcome) → (masks : List ℕ) × next coming masks a o → MeansSome command (record { held = held; coming = coming }) o
-  phase_means held coming a is o (masks, n) = (masks ∷ [], phased.means (record { held = held; coming = coming }) (masks ∷ []) o (subst (λ r. ThenDo r (next coming masks) o) (sym is) n))
+module _ {A : Type 0} (command : Command) (asked : Held → Result A Status) (next : Option (List (List ℕ)) → (ℕ → ℕ) → List ℕ → A → Outcome → Type 0) (count : A → ℕ) (phased : Phased command asked next count) where
+  phase_means : (held : Held) (coming : Option (List (List ℕ))) (cuts : ℕ → ℕ) (a : A) → asked held ≡ Ok a → (o : Outcome) → (masks : List ℕ) × next coming cuts masks a o → MeansSome command (record { held = held; coming = coming; cuts = cuts }) o
+  phase_means held coming cuts a is o (masks, n) = (masks ∷ [], phased.means (record { held = held; coming = coming; cuts = cuts }) (masks ∷ []) o (subst (λ r. ThenDo r (next coming cuts masks) o) (sym is) n))
 
   -- the steps gave a value, and the plan is that of what is told of it
-  pub planned_told : (held : Option Held) (coming comes : Option (List (List ℕ))) (a : A) (r : Result Plan Status) →
-      IfSome held (λ m. asked m ≡ Ok a) → PlansWith (λ o. (masks : List ℕ) × next coming masks a o) (λ k. k ≡ count a) coming comes r →
-      IfSome held (λ m. PlansWith (MeansSome command (record { held = m; coming = coming })) (TakesSeeds command m) coming comes r)
-  planned_told None coming comes a r is h = tt
-  planned_told (Some m) coming comes a r is h =
-      plans_weaker (λ o. (masks : List ℕ) × next coming masks a o) (MeansSome command (record { held = m; coming = coming })) (λ k. k ≡ count a) (TakesSeeds command m)
-      (phase_means m coming a is) (λ k e. subst (TakesSeeds command m) (sym e) (phased.takes m a is)) coming comes r h
+  pub planned_told : (held : Option Held) (coming comes : Option (List (List ℕ))) (cuts : ℕ → ℕ) (a : A) (r : Result Plan Status) →
+      IfSome held (λ m. asked m ≡ Ok a) → PlansWith (λ o. (masks : List ℕ) × next coming cuts masks a o) (λ k. k ≡ count a) coming comes r →
+      IfSome held (λ m. PlansWith (MeansSome command (record { held = m; coming = coming; cuts = cuts })) (TakesSeeds command m) coming comes r)
+  planned_told None coming comes cuts a r is h = tt
+  planned_told (Some m) coming comes cuts a r is h =
+      plans_weaker (λ o. (masks : List ℕ) × next coming cuts masks a o) (MeansSome command (record { held = m; coming = coming; cuts = cuts })) (λ k. k ≡ count a) (TakesSeeds command m)
+      (phase_means m coming cuts a is) (λ k e. subst (TakesSeeds command m) (sym e) (phased.takes m a is)) coming comes r h
 
   -- they refused
-  pub refused_told : (held : Option Held) (coming : Option (List (List ℕ))) (before now : ℕ) (s : Status) →
+  pub refused_told : (held : Option Held) (coming : Option (List (List ℕ))) (cuts : ℕ → ℕ) (before now : ℕ) (s : Status) →
       IfSome held (λ m. cause_of s ≡ Refusal → asked m ≡ Err s) → IsFromPlan before now s →
-      IfSome held (λ m. PlansWith (MeansSome command (record { held = m; coming = coming })) (TakesSeeds command m) coming coming (Err s))
-  refused_told None coming before now s gives from = tt
-  refused_told (Some m) coming before now s gives from =
-      stops_asking (MeansSome command (record { held = m; coming = coming })) (TakesSeeds command m) coming coming s (cause_of s) refl from.by refl
-      (λ is. ([], phased.means (record { held = m; coming = coming }) [] (refused s) (subst (λ r. ThenDo r (next coming []) (refused s)) (sym (gives is)) refl)))
+      IfSome held (λ m. PlansWith (MeansSome command (record { held = m; coming = coming; cuts = cuts })) (TakesSeeds command m) coming coming (Err s))
+  refused_told None coming cuts before now s gives from = tt
+  refused_told (Some m) coming cuts before now s gives from =
+      stops_asking (MeansSome command (record { held = m; coming = coming; cuts = cuts })) (TakesSeeds command m) coming coming s (cause_of s) refl from.by refl
+      (λ is. ([], phased.means (record { held = m; coming = coming; cuts = cuts }) [] (refused s) (subst (λ r. ThenDo r (next coming cuts []) (refused s)) (sym (gives is)) refl)))
 
   -- where they gave a value, enough seeds for the command are enough for what it takes
   pub enough_here : (held : Option Held) (coming : Option (List (List ℕ))) (a : A) → count a ≤ most_seeds command →

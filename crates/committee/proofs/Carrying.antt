@@ -15,6 +15,7 @@ use Rattle.plays.specs.Play.{Play}
 use Rattle.plays.specs.Law.{HonestIn}
 use Rattle.periods.specs.Move.{syndromes_heard, HaveErrors, moved_share, AreConstants, IsWithin, IsMove}
 use Rattle.periods.proofs.Moving.{one_lane_error, move_keeps, error_is_difference}
+use Rattle.drillbook.specs.Orders.{names}
 use Rattle.shelf.specs.Held.{Held, Change, after}
 use Rattle.sharefile.specs.Files.{Now, IsNow}
 use Rattle.keyroom.specs.Decoding.{lane_of, EnoughLieOn}
@@ -22,14 +23,15 @@ use Rattle.keyroom.specs.Outcome.{AreFirst}
 use Rattle.keyroom.specs.Steps.{files_of}
 use Rattle.keyroom.proofs.Reading.{now_read}
 use Rattle.committee.specs.Begins.{HasBegun, GoesOn}
-use Rattle.committee.specs.Kept.{undrilled, KeyStays}
+use Rattle.committee.specs.Kept.{files_without, KeyStays}
+use Rattle.committee.specs.Late.{down_after}
 use Rattle.committee.specs.Move.{move_asked, AreMoveMasks, play_moved, new_down, moved_shares, moved_now, move_changes}
 use Rattle.committee.specs.Moved.{LieOnIn, IsLaneMoved, IsMoved}
 use Rattle.committee.specs.Standing.{Standing, seeds_for}
 use Rattle.committee.proofs.Beginning.{periods_go_on, begun_now, begun_file}
 use Rattle.committee.proofs.GoingOn.{Stands}
 use Rattle.committee.proofs.Links.{following_is_now}
-use Rattle.committee.proofs.Movers.{CanMove, new_few}
+use Rattle.committee.proofs.Movers.{CanMove}
 use Rattle.committee.proofs.Shared.{AllShared, all_shared, are_shared, near_sound}
 use Rattle.committee.proofs.Staying.{honest_before, IsCarried, CarriesOn, part_stays}
 
@@ -70,7 +72,7 @@ module _ (st : Standing) (m u : ℕ) (seeds : List (List ℕ)) (masks : List ℕ
 -- ---- a move that is done
 module _ (name : List ℕ) (m u : ℕ) (drill : Option (List ℕ)) (held : Held) (coming : Option (List (List ℕ))) (st : Standing) (s : Stands (λ now. move_shape now.n now.t m u) name drill held st)
     (is : IsNow st.now) (next : st.now.period < 4294967295) (can : CanMove st m u) (size : is_size m ≡ true) (bound : is_bound m u ≡ true)
-    (seeds : List (List ℕ)) (masks : List ℕ) (allowed : AreMoveMasks st m u seeds masks) (moves : IsMove st.now.t (play_moved st m u seeds masks))
+    (seeds : List (List ℕ)) (cuts : ℕ → ℕ) (masks : List ℕ) (allowed : AreMoveMasks st m u seeds cuts masks) (few : how_many m (new_down (play_moved st m u seeds masks)) ≤ u) (moves : IsMove st.now.t (play_moved st m u seeds masks))
     (errors : List (List Fp)) (have : HaveErrors (play_moved st m u seeds masks).shape (syndromes_heard (play_moved st m u seeds masks)) errors) where
   abbrev down : ℕ → Bool
   down = new_down (play_moved st m u seeds masks)
@@ -83,9 +85,6 @@ module _ (name : List ℕ) (m u : ℕ) (drill : Option (List ℕ)) (held : Held)
 
   abbrev new : Now
   new = moved_now st m u (play_moved st m u seeds masks)
-
-  few : how_many m (new_down (play_moved st m u seeds masks)) ≤ u
-  few = new_few st m u can seeds masks allowed
 
   new_is : IsNow (moved_now st m u (play_moved st m u seeds masks))
   new_is = following_is_now st.now m u (new_down (play_moved st m u seeds masks)) is next size bound few
@@ -113,7 +112,7 @@ module _ (name : List ℕ) (m u : ℕ) (drill : Option (List ℕ)) (held : Held)
           ap (λ (xs : List Fp). get_or xs lane zeroₚ) b.has ∙ got.values j (record { from = from; to = to; up = b.up });
     }
 
-    lane_moved : (lane : ℕ) → lane < 5 → IsLaneMoved st (moved_now st m u (play_moved st m u seeds masks)) held later (play_moved st m u seeds masks) lane
+    lane_moved : (lane : ℕ) → lane < 5 → IsLaneMoved st (moved_now st m u (play_moved st m u seeds masks)) held later masks (play_moved st m u seeds masks) lane
     lane_moved lane lt = record {
       shared = shared.value lane;
       are = are_shared st m u can seeds masks moves held s.files lane (shared.value lane) lt (shared.are lane lt);
@@ -123,7 +122,7 @@ module _ (name : List ℕ) (m u : ℕ) (drill : Option (List ℕ)) (held : Held)
           (got.0, got.1.at_zero, lie_on lane before got.0 got.1);
     }
 
-  pub is_moved : move_asked name m u drill held ≡ Ok st → length seeds ≡ seeds_for st → AreFirst seeds coming → IsMoved name m u drill st.now coming masks held (after (move_changes st m u (play_moved st m u seeds masks) errors) held)
+  pub is_moved : move_asked name m u drill held ≡ Ok st → length seeds ≡ seeds_for st → AreFirst seeds coming → IsMoved name m u drill st.now coming cuts masks held (after (move_changes st m u (play_moved st m u seeds masks) errors) held)
   is_moved asked count first =
       let all : after (take (length changes) changes) held ≡ after changes held = ap (λ (cs : List Change). after cs held) (take_all (length changes) changes (omega arith)) in
       let begun = subst (HasBegun new down lanes) all (goes.late (length changes) goes.there) in
@@ -144,7 +143,7 @@ module _ (name : List ℕ) (m u : ℕ) (drill : Option (List ℕ)) (held : Held)
       }
 
   -- ---- the key
-  module _ (polys : List Polynomial) (enough : EnoughLieOn st.now.n st.now.t (undrilled st.orders 1 (files_of st.now held)) polys) where
+  module _ (polys : List Polynomial) (enough : EnoughLieOn st.now.n st.now.t (files_without (down_after (names st.orders) masks) 1 (files_of st.now held)) polys) where
     carry : (lane : ℕ) → lane < 5 → (f : List Fp) × IsCarried (moved_now st m u (play_moved st m u seeds masks)) (moved_shares (play_moved st m u seeds masks) errors) (λ j. not (new_down (play_moved st m u seeds masks) j)) lane (lane_of polys lane) f
     carry lane lt =
         let within = near_sound st m u can seeds masks moves held s.files polys enough lane (shared.value lane) lt (shared.are lane lt) in
@@ -164,5 +163,5 @@ module _ (name : List ℕ) (m u : ℕ) (drill : Option (List ℕ)) (held : Held)
     pub move_stays : (count : ℕ) → KeyStays name st.now polys held (after (take count (move_changes st m u (play_moved st m u seeds masks) errors)) held)
     move_stays count =
         part_stays name st.now (moved_now st m u (play_moved st m u seeds masks)) (new_down (play_moved st m u seeds masks)) (moved_shares (play_moved st m u seeds masks) errors) held polys named new_is five
-        (honest_before name st.now held st.orders polys s.now_is enough) carries_on
+        (honest_before name st.now held (down_after (names st.orders) masks) polys s.now_is enough) carries_on
         (move_changes st m u (play_moved st m u seeds masks) errors) count named goes

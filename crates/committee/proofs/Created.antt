@@ -7,7 +7,7 @@ use Rattle.chance61.specs.Draws.{grids_drawn}
 use Rattle.sharing61.specs.Count.{how_many}
 use Rattle.sharing61.proofs.Count.{how_many_same}
 use Rattle.sizes.specs.Committees.{IsCommittee}
-use Rattle.talk.specs.Shape.{Shape, create_shape}
+use Rattle.talk.specs.Shape.{Shape, create_shape, rounds}
 use Rattle.talk.specs.Hears.{Hearing, Seated}
 use Rattle.plays.specs.Play.{Play}
 use Rattle.plays.specs.Law.{ProperPlay, HonestIn}
@@ -22,10 +22,11 @@ use Rattle.drillbook.specs.Orders.{names}
 use Rattle.drillbook.specs.Text.{named_among}
 use Rattle.sharer.specs.Sharer.{MadeFor}
 use Rattle.committee.specs.Create.{dealt_by, grids_on, members_on, AreCreateMasks, play_created, created_shares}
+use Rattle.committee.specs.Late.{down_after, IsLate, WasCut}
 use Rattle.committee.specs.declared.phase.Phase.{Phase}
 use Rattle.committee.specs.Phase.{marked, marks_of, EndDone, IsReadOff, IsPhase}
 use Rattle.committee.specs.Run.{numbered, drilled_on, drilled_all}
-use Rattle.committee.proofs.Phases.{length-numbered, nth_numbered, none_degree, grids_degree, Starts, Reads, honest_in, proper_phase, end_done, is_phase}
+use Rattle.committee.proofs.Phases.{length-numbered, nth_numbered, none_degree, grids_degree, Starts, Reads, honest_in, proper_phase, late_was_cut, end_done, is_phase}
 
 -- ---- the members at the start
 pub length-dealt : (degree : ℕ) (seeds : List (List ℕ)) → length (dealt_by degree seeds) ≡ length seeds
@@ -86,25 +87,28 @@ module _ (n t : ℕ) (c : IsCommittee n t) (orders : List Order) (seeds : List (
         );
   }
 
-  pub create_honest : (masks : List ℕ) → AreCreateMasks n t orders seeds masks → (j : ℕ) → 1 ≤ j → j ≤ n → names orders j ≡ false → HonestIn (play_created n t orders seeds masks) j
-  create_honest masks allowed = honest_in member_ways (λ (m x : Member). m ≡ x) n t t orders (names orders) (grids_on (dealt_by t seeds)) (members_on (create_shape n t) (dealt_by t seeds)) starts masks allowed
+  pub create_honest : (masks : List ℕ) → length masks ≡ rounds (create_shape n t) → (j : ℕ) → 1 ≤ j → j ≤ n → down_after (names orders) masks j ≡ false → HonestIn (play_created n t orders seeds masks) j
+  create_honest masks every = honest_in member_ways (λ (m x : Member). m ≡ x) n t t orders (names orders) (grids_on (dealt_by t seeds)) (members_on (create_shape n t) (dealt_by t seeds)) starts masks every
 
-  -- with at most the bound drilled the play is as agreement asks
-  pub proper_create : (masks : List ℕ) → AreCreateMasks n t orders seeds masks → named_among orders 0 n ≤ t → ProperPlay (play_created n t orders seeds masks)
-  proper_create masks allowed few =
-      proper_phase member_ways (λ (m x : Member). m ≡ x) n t t orders (names orders) (grids_on (dealt_by t seeds)) (members_on (create_shape n t) (dealt_by t seeds)) starts masks allowed (omega (arith, few, few_named orders n))
+  -- with at most the bound down the play is as agreement asks
+  pub proper_create : (masks : List ℕ) → length masks ≡ rounds (create_shape n t) → how_many n (down_after (names orders) masks) ≤ t → ProperPlay (play_created n t orders seeds masks)
+  proper_create masks every few = proper_phase member_ways (λ (m x : Member). m ≡ x) n t t orders (names orders) (grids_on (dealt_by t seeds)) (members_on (create_shape n t) (dealt_by t seeds)) starts masks every few
+
+  -- who is late was cut
+  pub create_late : (cuts : ℕ → ℕ) (masks : List ℕ) → AreCreateMasks n t orders seeds cuts masks → (j : ℕ) → 1 ≤ j → j ≤ n → IsLate (names orders) masks j → WasCut cuts 5 j
+  create_late cuts masks allowed = late_was_cut member_ways (λ (m x : Member). m ≡ x) n t t orders (names orders) (grids_on (dealt_by t seeds)) (members_on (create_shape n t) (dealt_by t seeds)) starts masks allowed.0 cuts allowed.1
 
   pub create_done : EndDone member_ways (λ (m : Member). IsDone m.stage) (create_shape n t) (marked (marks_of (names orders) n)) (drilled_all (create_shape n t) orders (members_on (create_shape n t) (dealt_by t seeds)))
   create_done =
       end_done member_ways (λ (m x : Member). m ≡ x) n t t orders (names orders) (grids_on (dealt_by t seeds)) (members_on (create_shape n t) (dealt_by t seeds)) starts
       (λ (m : Member). IsDone m.stage) member_shares (λ (m : Member). accepted_in m.stage) created_shares (λ masks. members_read (play_created n t orders seeds masks) (grids_on (dealt_by t seeds)))
 
-  module _ (phase : Phase) (off : IsReadOff member_ways member_shares (λ (m : Member). accepted_in m.stage) (create_shape n t) (marked (marks_of (names orders) n)) (drilled_all (create_shape n t) orders (members_on (create_shape n t) (dealt_by t seeds))) phase) where
-    pub create_masks : AreCreateMasks n t orders seeds phase.masks
+  module _ (cuts : ℕ → ℕ) (phase : Phase) (off : IsReadOff member_ways member_shares (λ (m : Member). accepted_in m.stage) (create_shape n t) (marked (marks_of (names orders) n)) cuts (drilled_all (create_shape n t) orders (members_on (create_shape n t) (dealt_by t seeds))) phase) where
+    pub create_masks : AreCreateMasks n t orders seeds cuts phase.masks
     create_masks = (off.all, off.allowed)
 
-    pub create_is_phase : named_among orders 0 n ≤ t → IsPhase n (play_created n t orders seeds phase.masks) (created_shares (play_created n t orders seeds phase.masks)) phase
-    create_is_phase few =
+    pub create_is_phase : IsPhase n (play_created n t orders seeds phase.masks) (created_shares (play_created n t orders seeds phase.masks)) phase
+    create_is_phase =
         is_phase member_ways (λ (m x : Member). m ≡ x) n t t orders (names orders) (grids_on (dealt_by t seeds)) (members_on (create_shape n t) (dealt_by t seeds)) starts
         (λ (m : Member). IsDone m.stage) member_shares (λ (m : Member). accepted_in m.stage) created_shares (λ masks. members_read (play_created n t orders seeds masks) (grids_on (dealt_by t seeds)))
-        phase off (omega (arith, few, few_named orders n))
+        cuts phase off

@@ -1,10 +1,11 @@
 -- What a create means puts share files on one polynomial in each lane.
-use Rattle.std.proofs.Common.{◌≡◌, inl, inr, ℕ, ◌≤◌, List, take, Option, Some, None, Result, Ok, Err, refl, sym, ap, ◌∙◌, subst, arith}
+use Rattle.std.proofs.Common.{◌≡◌, inl, inr, ℕ, ◌≤◌, List, length, take, Option, Some, None, Result, Ok, Err, refl, sym, ap, ◌∙◌, subst, arith}
 use Rattle.std.specs.FinMap.{get}
 use Rattle.std.specs.Prelude.{IfSome}
 use Rattle.shelf.specs.Held.{Held, after}
 use Rattle.sharefile.specs.declared.link.Link.{Link}
 use Rattle.sharefile.specs.Files.{Now, IsNow}
+use Rattle.sharing61.specs.Count.{how_many}
 use Rattle.sizes.specs.Committees.{IsCommittee}
 use Rattle.talk.specs.Shape.{Shape}
 use Rattle.drillbook.specs.declared.order.Order.{Order}
@@ -16,25 +17,27 @@ use Rattle.keyroom.specs.declared.status.Status.TheVariants.{Done}
 use Rattle.keyroom.specs.Causes.{cause_of}
 use Rattle.keyroom.specs.Words.{Create, IsInRange, ReadsAs}
 use Rattle.keyroom.specs.Names.{now_name}
-use Rattle.keyroom.specs.Outcome.{Outcome, ThenDo}
+use Rattle.keyroom.specs.Outcome.{Outcome, ThenDo, AreFirst}
 use Rattle.keyroom.specs.Steps.{free_step, free_of, ◌and_then◌}
 use Rattle.keyroom.proofs.Working.{and_then_ok}
 use Rattle.committee.specs.Links.{first_link, first_now}
 use Rattle.committee.specs.Drill.{drill_of}
-use Rattle.committee.specs.Create.{Creates, MeansCreate, create_asked, create_changes, play_created}
+use Rattle.committee.specs.Create.{AreCreateMasks, Creates, MeansCreate, create_asked, create_changes, create_outcome, play_created}
+use Rattle.committee.specs.Late.{down_after}
 use Rattle.committee.specs.Answer.{Does}
 use Rattle.committee.specs.Meaning.{Given, Means, AskForSeeds}
 use Rattle.committee.specs.Agreement.{PutsOnOneLine, HeldOnOneLine, NewOnOneLine, CreatesOnOneLine, MadeAll}
 use Rattle.committee.proofs.Committees.{committee_of}
 use Rattle.committee.proofs.Drills.{FromSteps, few_drill, drill_refuses}
-use Rattle.committee.proofs.Created.{proper_create, create_honest, few_named}
+use Rattle.committee.proofs.Created.{proper_create, create_honest}
+use Rattle.committee.proofs.Late.{done_enough}
 use Rattle.committee.proofs.Links.{first_is_now}
 use Rattle.committee.proofs.Agreement.{puts_on_one_line, all_on_one_line, part_on_one_line, same_on_one_line}
 use Rattle.committee.proofs.OneMeaning.{meant_of}
 use Rattle.committee.proofs.Doing.{MadeSome, made_all, made_some}
 
 -- ---- few are named
-few_asked : (name : List ℕ) (n t : ℕ) (drill : Option (List ℕ)) (held : Held) (orders : List Order) → create_asked name (create_shape n t) drill held ≡ Ok orders → named_among orders 0 n ≤ t
+pub few_asked : (name : List ℕ) (n t : ℕ) (drill : Option (List ℕ)) (held : Held) (orders : List Order) → create_asked name (create_shape n t) drill held ≡ Ok orders → named_among orders 0 n ≤ t
 few_asked name n t drill held orders e =
     let a = and_then_ok (free_of (now_name name) held) (λ free. drill_of (create_shape n t) drill held) orders e in
     few_drill (create_shape n t) drill held orders a.2
@@ -48,83 +51,91 @@ never_asked : (name : List ℕ) (s : Shape) (drill : Option (List ℕ)) (held : 
 never_asked name s drill held status e done = never_free (get held (now_name name)) (drill_of s drill held) status (λ f d. subst FromSteps d (drill_refuses s drill held status f)) e done
 
 -- ---- the steps
--- a create that is done: the drill, and what it creates
-pub record WasCreated (name : List ℕ) (n t : ℕ) (drill : Option (List ℕ)) (held : Held) (coming : Option (List (List ℕ))) (masks : List ℕ) (outcome : Outcome) : Type 0 where
+-- a create that is done: the drill, and what it did under these masks
+pub record WasCreated (name : List ℕ) (n t : ℕ) (drill : Option (List ℕ)) (held : Held) (coming : Option (List (List ℕ))) (cuts : ℕ → ℕ) (masks : List ℕ) (outcome : Outcome) : Type 0 where
   pub orders : List Order
   pub asked : create_asked name (create_shape n t) drill held ≡ Ok orders
-  pub creates : Creates name n t coming masks orders outcome
+  pub seeds : List (List ℕ)
+  pub all : length seeds ≡ n
+  pub first : AreFirst seeds coming
+  pub allowed : AreCreateMasks n t orders seeds cuts masks
+  pub few : how_many n (down_after (names orders) masks) ≤ t
+  pub is : outcome ≡ create_outcome (first_now name n t (first_link name n t (down_after (names orders) masks))) masks (play_created n t orders seeds masks)
 
-asked_cases : (name : List ℕ) (n t : ℕ) (drill : Option (List ℕ)) (held : Held) (coming : Option (List (List ℕ))) (masks : List ℕ) (outcome : Outcome) (r : Result (List Order) Status) →
-    create_asked name (create_shape n t) drill held ≡ r → outcome.status ≡ Done → ThenDo r (Creates name n t coming masks) outcome → WasCreated name n t drill held coming masks outcome
-asked_cases name n t drill held coming masks outcome (Ok orders) e done c = record { orders = orders; asked = e; creates = c }
-asked_cases name n t drill held coming masks outcome (Err status) e done c = absurd (never_asked name (create_shape n t) drill held status e (sym (ap (λ (o : Outcome). o.status) c) ∙ done))
+module _ (name : List ℕ) (n t : ℕ) (drill : Option (List ℕ)) (held : Held) (coming : Option (List (List ℕ))) (cuts : ℕ → ℕ) (masks : List ℕ) (outcome : Outcome) (c : IsCommittee n t) where
+  asked_cases : (r : Result (List Order) Status) → create_asked name (create_shape n t) drill held ≡ r → outcome.status ≡ Done → ThenDo r (Creates name n t coming cuts masks) outcome → WasCreated name n t drill held coming cuts masks outcome
+  asked_cases (Ok orders) e done r =
+      let enough = done_enough n n t (down_after (names orders) masks)
+      (create_outcome (first_now name n t (first_link name n t (down_after (names orders) masks))) masks (play_created n t orders r.0 masks))
+      (omega (arith, c.third)) (sym (ap (λ (o : Outcome). o.status) r.4) ∙ done) in
+      record { orders = orders; asked = e; seeds = r.0; all = r.1; first = r.2; allowed = r.3; few = enough.few; is = r.4 ∙ enough.is }
+  asked_cases (Err status) e done r = absurd (never_asked name (create_shape n t) drill held status e (sym (ap (λ (o : Outcome). o.status) r) ∙ done))
 
-pub was_created : (name : List ℕ) (n t : ℕ) (drill : Option (List ℕ)) (held : Held) (coming : Option (List (List ℕ))) (masks : List ℕ) (outcome : Outcome) →
-    MeansCreate name n t drill held coming masks outcome → outcome.status ≡ Done → WasCreated name n t drill held coming masks outcome
-was_created name n t drill held coming masks outcome means done = asked_cases name n t drill held coming masks outcome (create_asked name (create_shape n t) drill held) refl done means
+  pub was_created : MeansCreate name n t drill held coming cuts masks outcome → outcome.status ≡ Done → WasCreated name n t drill held coming cuts masks outcome
+  was_created means done = asked_cases (create_asked name (create_shape n t) drill held) refl done means
 
-module _ (name : List ℕ) (n t : ℕ) (drill : Option (List ℕ)) (held : Held) (coming : Option (List (List ℕ))) (masks : List ℕ) (outcome : Outcome) (range : IsInRange (Create name n t drill)) (was : WasCreated name n t drill held coming masks outcome) where
-  -- what it creates, and the now file of it
-  few : named_among was.orders 0 n ≤ t
-  few = few_asked name n t drill held was.orders was.asked
+module _ (name : List ℕ) (n t : ℕ) (drill : Option (List ℕ)) (held : Held) (coming : Option (List (List ℕ))) (cuts : ℕ → ℕ) (masks : List ℕ) (outcome : Outcome) (range : IsInRange (Create name n t drill)) (was : WasCreated name n t drill held coming cuts masks outcome) where
+  -- the now file of it
+  abbrev created_now : Now
+  created_now = first_now name n t (first_link name n t (down_after (names was.orders) masks))
 
-  abbrev made : Now
-  made = first_now name n t (first_link name n t (names was.orders))
+  pub made_is_now : IsNow (first_now name n t (first_link name n t (down_after (names was.orders) masks)))
+  made_is_now = first_is_now name n t (down_after (names was.orders) masks) range.0 range.1 range.2 was.few
 
-  pub made_is_now : IsNow (first_now name n t (first_link name n t (names was.orders)))
-  made_is_now = first_is_now name n t (names was.orders) range.0 range.1 range.2 (omega (arith, few, few_named was.orders n))
-
-  created_puts : (link : Option Link) → PutsOnOneLine (first_now name n t link) outcome.changes
+  pub created_puts : (link : Option Link) → PutsOnOneLine (first_now name n t link) outcome.changes
   created_puts link =
-      let c = was.creates in
       let whole : IsCommittee n t = committee_of n t range.1 range.2 in
-      subst (λ (o : Outcome). PutsOnOneLine (first_now name n t link) o.changes) (sym c.4)
-      (puts_on_one_line made (play_created n t was.orders c.0 masks) made_is_now link
-      (proper_create n t whole was.orders c.0 c.1 masks c.3 few) refl
-      (create_honest n t whole was.orders c.0 c.1 masks c.3))
+      subst (λ (o : Outcome). PutsOnOneLine (first_now name n t link) o.changes) (sym was.is)
+      (puts_on_one_line created_now (play_created n t was.orders was.seeds masks) made_is_now link
+      (proper_create n t whole was.orders was.seeds was.all masks was.allowed.0 was.few) refl
+      (create_honest n t whole was.orders was.seeds was.all masks was.allowed.0))
 
-  created_held : (link : Option Link) → HeldOnOneLine (first_now name n t link) (after outcome.changes held)
+  pub created_held : (link : Option Link) → HeldOnOneLine (first_now name n t link) (after outcome.changes held)
   created_held link =
-      let c = was.creates in
-      let changes : outcome.changes ≡ create_changes made (play_created n t was.orders c.0 masks) = ap (λ (o : Outcome). o.changes) c.4 in
+      let changes : outcome.changes ≡ create_changes created_now (play_created n t was.orders was.seeds masks) = ap (λ (o : Outcome). o.changes) was.is in
       subst (λ cs. HeldOnOneLine (first_now name n t link) (after cs held)) (sym changes)
-      (all_on_one_line made (play_created n t was.orders c.0 masks) made_is_now link held (subst (PutsOnOneLine (first_now name n t link)) changes (created_puts link)))
+      (all_on_one_line created_now (play_created n t was.orders was.seeds masks) made_is_now link held (subst (PutsOnOneLine (first_now name n t link)) changes (created_puts link)))
+
+-- a create that is done was so
+pub done_created : (name : List ℕ) (n t : ℕ) (drill : Option (List ℕ)) (held : Held) (coming : Option (List (List ℕ))) (cuts : ℕ → ℕ) (masks : List ℕ) (outcome : Outcome) → IsInRange (Create name n t drill) →
+    MeansCreate name n t drill held coming cuts masks outcome → outcome.status ≡ Done → WasCreated name n t drill held coming cuts masks outcome
+done_created name n t drill held coming cuts masks outcome range means done = was_created name n t drill held coming cuts masks outcome (committee_of n t range.1 range.2) means done
 
 pub creates_on_one_line : CreatesOnOneLine
-creates_on_one_line name n t drill held coming masks outcome range means done = created_puts name n t drill held coming masks outcome range (was_created name n t drill held coming masks outcome means done)
+creates_on_one_line name n t drill held coming cuts masks outcome range means done = created_puts name n t drill held coming cuts masks outcome range (done_created name n t drill held coming cuts masks outcome range means done)
 
 -- ---- the clauses of the top call
 told_line : (now : Now) (m : Held) (after_all : Held) → Some m ≡ Some after_all → HeldOnOneLine now after_all → HeldOnOneLine now m
 told_line now m after_all e h = subst (HeldOnOneLine now) (cc (sym e)) h
 
-pub run_on_one_line : (words : List (List ℕ)) (coming comes : Option (List (List ℕ))) (told tells : Option (List ℕ)) (status : Status) (old new : Option Held) →
-    IfSome old (λ m. Does (Means words (record { held = m; coming = coming })) (AskForSeeds words m) (record { held = old; coming = coming; told = told }) (record { held = new; coming = comes; told = tells }) status) →
+pub run_on_one_line : (words : List (List ℕ)) (cuts : ℕ → ℕ) (coming comes : Option (List (List ℕ))) (told tells : Option (List ℕ)) (status : Status) (old new : Option Held) →
+    IfSome old (λ m. Does (Means words (record { held = m; coming = coming; cuts = cuts })) (AskForSeeds words m) (record { held = old; coming = coming; told = told }) (record { held = new; coming = comes; told = tells }) status) →
     MadeAll (cause_of status) → IfSome old (λ before. IfSome new (λ m. (name : List ℕ) (n t : ℕ) (drill : Option (List ℕ)) → ReadsAs words (Create name n t drill) → (link : Option Link) → HeldOnOneLine (first_now name n t link) m))
-run_on_one_line words coming comes told tells status None new does made = tt
-run_on_one_line words coming comes told tells status (Some old) None does made = tt
-run_on_one_line words coming comes told tells status (Some old) (Some m) does made = λ name n t drill reads link.
-    let given : Given = record { held = old; coming = coming } in
+run_on_one_line words cuts coming comes told tells status None new does made = tt
+run_on_one_line words cuts coming comes told tells status (Some old) None does made = tt
+run_on_one_line words cuts coming comes told tells status (Some old) (Some m) does made = λ name n t drill reads link.
+    let given : Given = record { held = old; coming = coming; cuts = cuts } in
     let o = made_all (Means words given) (AskForSeeds words old) (record { held = Some old; coming = coming; told = told }) (record { held = Some m; coming = comes; told = tells }) status made does in
     let meant = meant_of words given (Create name n t drill) o.0 reads o.1 in
     told_line (first_now name n t link) m (after o.0.changes old) o.3
-    (created_held name n t drill old coming _ o.0 reads.in_range (was_created name n t drill old coming _ o.0 meant.1 o.2) link)
+    (created_held name n t drill old coming cuts _ o.0 reads.in_range (done_created name n t drill old coming cuts _ o.0 reads.in_range meant.1 o.2) link)
 
 -- after a part of the changes
 part_line : (words : List (List ℕ)) (given : Given) (new : Held) (name : List ℕ) (n t : ℕ) (drill : Option (List ℕ)) → ReadsAs words (Create name n t drill) → (made : MadeSome (Means words given) (Some given.held) (Some new)) → (link : Option Link) → NewOnOneLine (first_now name n t link) given.held new
 part_line words given new name n t drill reads made link =
     let meant = meant_of words given (Create name n t drill) made.outcome reads made.meant in
-    let was = was_created name n t drill given.held given.coming _ made.outcome meant.1 made.planned in
+    let was = done_created name n t drill given.held given.coming given.cuts _ made.outcome reads.in_range meant.1 made.planned in
     let is : new ≡ after (take made.count made.outcome.changes) given.held = let e = made.is in cc in
     subst (NewOnOneLine (first_now name n t link) given.held) (sym is)
-    (part_on_one_line (first_now name n t link) made.outcome.changes made.count given.held (created_puts name n t drill given.held given.coming _ made.outcome reads.in_range was link))
+    (part_on_one_line (first_now name n t link) made.outcome.changes made.count given.held (created_puts name n t drill given.held given.coming given.cuts _ made.outcome reads.in_range was link))
 
-pub run_stopped : (words : List (List ℕ)) (coming comes : Option (List (List ℕ))) (told tells : Option (List ℕ)) (status : Status) (old new : Option Held) →
-    IfSome old (λ m. Does (Means words (record { held = m; coming = coming })) (AskForSeeds words m) (record { held = old; coming = coming; told = told }) (record { held = new; coming = comes; told = tells }) status) →
+pub run_stopped : (words : List (List ℕ)) (cuts : ℕ → ℕ) (coming comes : Option (List (List ℕ))) (told tells : Option (List ℕ)) (status : Status) (old new : Option Held) →
+    IfSome old (λ m. Does (Means words (record { held = m; coming = coming; cuts = cuts })) (AskForSeeds words m) (record { held = old; coming = coming; told = told }) (record { held = new; coming = comes; told = tells }) status) →
     IfSome old (λ before. IfSome new (λ m. (name : List ℕ) (n t : ℕ) (drill : Option (List ℕ)) → ReadsAs words (Create name n t drill) → (link : Option Link) → NewOnOneLine (first_now name n t link) before m))
-run_stopped words coming comes told tells status None new does = tt
-run_stopped words coming comes told tells status (Some old) None does = tt
-run_stopped words coming comes told tells status (Some old) (Some m) does = λ name n t drill reads link.
-    let given : Given = record { held = old; coming = coming } in
+run_stopped words cuts coming comes told tells status None new does = tt
+run_stopped words cuts coming comes told tells status (Some old) None does = tt
+run_stopped words cuts coming comes told tells status (Some old) (Some m) does = λ name n t drill reads link.
+    let given : Given = record { held = old; coming = coming; cuts = cuts } in
     elim (made_some (Means words given) (AskForSeeds words old) (record { held = Some old; coming = coming; told = told }) (record { held = Some m; coming = comes; told = tells }) status does) [
       | inl same ↦ let is : m ≡ old = cc in subst (NewOnOneLine (first_now name n t link) old) (sym is) (same_on_one_line (first_now name n t link) old)
       | inr made ↦ part_line words given m name n t drill reads made link

@@ -4,16 +4,17 @@ use Rattle.std.specs.Prelude.{IfSome, IfErr}
 use Rattle.std.specs.Option.{option_map}
 use Rattle.std.proofs.lemmas.List.{take_all}
 use Rattle.shelf.specs.Held.{Held, Change, after}
-use Rattle.shelf.specs.Causes.{Rose}
+use Rattle.counters.specs.Counts.{Rose}
 use Rattle.keyroom.specs.declared.status.Status.{Status}
 use Rattle.keyroom.specs.declared.status.Status.TheVariants as answer
 use Rattle.keyroom.specs.declared.plan.Plan.{Plan}
-use Rattle.keyroom.specs.Causes.{Cause, Done, Refusal, Shelf, Entropy, Sink, Memory, cause_of, IsOfPlan, IsFromPlan}
+use Rattle.keyroom.specs.Causes.{Cause, Done, Refusal, Shelf, Entropy, Crew, Sink, Memory, cause_of, IsOfPlan, IsFromPlan}
 use Rattle.keyroom.specs.Outcome.{Outcome, refused}
 use Rattle.keyroom.specs.Changes.{outcome_of}
 use Rattle.keyroom.specs.Answer.{IsChanged, IsTold, Carries, Plans}
 use Rattle.keyroom.specs.Words.{Command, ReadsAs, IsUsage}
-use Rattle.committee.specs.Answer.{refused_after, World, Took, TookAsked, StopsBefore, PlansWith, CarriedOut, IsUntouched, DoesBy, Does, IsWhole, Completes, Writes}
+use Rattle.committee.specs.Late.{refused_after}
+use Rattle.committee.specs.Answer.{World, Took, TookAsked, TookAll, StopsBefore, PlansWith, CarriedOut, IsUntouched, DoesBy, Does, IsWhole, Completes, Writes}
 use Rattle.committee.specs.Meaning.{Given, MeansSome, Means, TakesSeeds, AskForSeeds}
 use Rattle.committee.specs.Agreement.{MadeAll}
 
@@ -31,6 +32,7 @@ module _ (means : Outcome → Type 0) (asks : ℕ → Type 0) (before after : Wo
   does status Refusal carried = absurd carried
   does status Shelf carried = inr (o, whole Shelf carried)
   does status Entropy carried = absurd carried
+  does status Crew carried = absurd carried
   does status Sink carried = (o, whole Sink carried)
   does status Memory carried = inr (o, whole Memory carried)
 
@@ -42,6 +44,9 @@ module _ (means : Outcome → Type 0) (asks : ℕ → Type 0) (before after : Wo
 asked_weaker : (asks may : ℕ → Type 0) → ((count : ℕ) → asks count → may count) → (coming comes : Option (List (List ℕ))) → TookAsked asks coming comes → TookAsked may coming comes
 asked_weaker asks may ask coming comes (count, is, took) = (count, ask count is, took)
 
+all_weaker : (asks may : ℕ → Type 0) → ((count : ℕ) → asks count → may count) → (coming comes : Option (List (List ℕ))) → TookAll asks coming comes → TookAll may coming comes
+all_weaker asks may ask coming comes (count, is, took) = (count, ask count is, took)
+
 module _ (means on : Outcome → Type 0) (asks may : ℕ → Type 0) (weaker : (o : Outcome) → means o → on o) (ask : (count : ℕ) → asks count → may count) where
   carried_of : (before after : World) (cause : Cause) → (o : Outcome) × CarriedOut means before after cause o → (o : Outcome) × CarriedOut on before after cause o
   carried_of before after cause (o, c) = (o, record { meant = weaker o c.meant; planned = c.planned; carried = c.carried; took = c.took })
@@ -52,6 +57,7 @@ module _ (means on : Outcome → Type 0) (asks may : ℕ → Type 0) (weaker : (
   does_by_weaker before after status Shelf (inl same) = inl same
   does_by_weaker before after status Shelf (inr d) = inr (carried_of before after Shelf d)
   does_by_weaker before after status Entropy d = (d.0, asked_weaker asks may ask before.coming after.coming d.1)
+  does_by_weaker before after status Crew d = (d.0, all_weaker asks may ask before.coming after.coming d.1)
   does_by_weaker before after status Sink d = carried_of before after Sink d
   does_by_weaker before after status Memory (inl (same, inl none)) = inl (same, inl none)
   does_by_weaker before after status Memory (inl (same, inr some)) = inl (same, inr (asked_weaker asks may ask before.coming after.coming some))
@@ -65,6 +71,7 @@ module _ (means on : Outcome → Type 0) (asks may : ℕ → Type 0) (weaker : (
   stops_weaker coming comes status Refusal h = (h.0, weaker (refused_after h.0 status) h.1, h.2)
   stops_weaker coming comes status Shelf h = h
   stops_weaker coming comes status Entropy h = asked_weaker asks may ask coming comes h
+  stops_weaker coming comes status Crew h = all_weaker asks may ask coming comes h
   stops_weaker coming comes status Sink h = absurd h
   stops_weaker coming comes status Memory (inl same) = inl same
   stops_weaker coming comes status Memory (inr some) = inr (asked_weaker asks may ask coming comes some)
@@ -85,6 +92,7 @@ stops_asking means asks coming comes status Done e by same h = absurd by
 stops_asking means asks coming comes status Refusal e by same h = (0, h e, subst (Took 0 coming) (sym same) (took_none coming))
 stops_asking means asks coming comes status Shelf e by same h = same
 stops_asking means asks coming comes status Entropy e by same h = absurd by
+stops_asking means asks coming comes status Crew e by same h = absurd by
 stops_asking means asks coming comes status Sink e by same h = absurd by
 stops_asking means asks coming comes status Memory e by same h = inl same
 
@@ -110,6 +118,7 @@ made_by means asks before now status Done made (o, c) = (o, c.meant, c.planned, 
 made_by means asks before now status Refusal made d = absurd made
 made_by means asks before now status Shelf made d = absurd made
 made_by means asks before now status Entropy made d = absurd made
+made_by means asks before now status Crew made d = absurd made
 made_by means asks before now status Sink made (o, c) = (o, c.meant, c.planned, c.carried.0)
 made_by means asks before now status Memory made d = absurd made
 
@@ -133,6 +142,7 @@ made_some_by means asks before now status Refusal d = inl d.2.held
 made_some_by means asks before now status Shelf (inl same) = inl (ap (λ (w : World). w.held) same)
 made_some_by means asks before now status Shelf (inr (o, c)) = inr (record { outcome = o; meant = c.meant; planned = c.planned; count = c.carried.0.0; is = c.carried.0.2 })
 made_some_by means asks before now status Entropy d = inl d.0.held
+made_some_by means asks before now status Crew d = inl d.0.held
 made_some_by means asks before now status Sink (o, c) = inr (record { outcome = o; meant = c.meant; planned = c.planned; count = length o.changes; is = whole_made before.held now.held o.changes c.carried.0 })
 made_some_by means asks before now status Memory (inl (same, none)) = inl same.held
 made_some_by means asks before now status Memory (inr (o, c)) = inr (record { outcome = o; meant = c.meant; planned = c.planned; count = c.carried.0.0; is = c.carried.0.2 })
@@ -155,6 +165,7 @@ module _ (words : List (List ℕ)) (given : Given) (command : Command) (reads : 
   refused_by status Refusal h = (h.0, read_under words given command (refused_after h.0 status) reads h.1, record { held = same; told = refl }, h.2)
   refused_by status Shelf h = inl (world_same old new given.coming comes told same h)
   refused_by status Entropy h = (record { held = same; told = refl }, asked_weaker (TakesSeeds command given.held) (AskForSeeds words given.held) ask given.coming comes h)
+  refused_by status Crew h = (record { held = same; told = refl }, all_weaker (TakesSeeds command given.held) (AskForSeeds words given.held) ask given.coming comes h)
   refused_by status Sink h = absurd h
   refused_by status Memory (inl none) = inl (record { held = same; told = refl }, inl none)
   refused_by status Memory (inr some) = inl (record { held = same; told = refl }, inr (asked_weaker (TakesSeeds command given.held) (AskForSeeds words given.held) ask given.coming comes some))
@@ -182,16 +193,17 @@ module _ (means : Outcome → Type 0) (asks : ℕ → Type 0) (before after : Wo
     took = took;
   }
 
-  completes_by : (status : Status) (cause : Cause) → cause_of status ≡ cause → (cause ≡ Done → status ≡ answer.Done) → (cause ≡ Shelf → ⊥) → (cause ≡ Entropy → ⊥) → (cause ≡ Sink → ⊥) → DoesBy means asks before after status cause → Completes means before after status
-  completes_by status Done e done shelf entropy sink (o, c) = inr (o, record { meant = c.meant; answered = c.planned ∙ sym (done refl); held = c.carried.0; told = c.carried.1; took = c.took })
-  completes_by status Refusal e done shelf entropy sink d = inr (refused_after d.0 status, refusal_whole status d.0 d.1 d.2 d.3)
-  completes_by status Shelf e done shelf entropy sink d = absurd (shelf refl)
-  completes_by status Entropy e done shelf entropy sink d = absurd (entropy refl)
-  completes_by status Sink e done shelf entropy sink d = absurd (sink refl)
-  completes_by status Memory e done shelf entropy sink d = inl e
+  completes_by : (status : Status) (cause : Cause) → cause_of status ≡ cause → (cause ≡ Done → status ≡ answer.Done) → (cause ≡ Shelf → ⊥) → (cause ≡ Entropy → ⊥) → (cause ≡ Crew → ⊥) → (cause ≡ Sink → ⊥) → DoesBy means asks before after status cause → Completes means before after status
+  completes_by status Done e done shelf entropy crew sink (o, c) = inr (o, record { meant = c.meant; answered = c.planned ∙ sym (done refl); held = c.carried.0; told = c.carried.1; took = c.took })
+  completes_by status Refusal e done shelf entropy crew sink d = inr (refused_after d.0 status, refusal_whole status d.0 d.1 d.2 d.3)
+  completes_by status Shelf e done shelf entropy crew sink d = absurd (shelf refl)
+  completes_by status Entropy e done shelf entropy crew sink d = absurd (entropy refl)
+  completes_by status Crew e done shelf entropy crew sink d = absurd (crew refl)
+  completes_by status Sink e done shelf entropy crew sink d = absurd (sink refl)
+  completes_by status Memory e done shelf entropy crew sink d = inl e
 
-  pub completes : (status : Status) → (cause_of status ≡ Done → status ≡ answer.Done) → (cause_of status ≡ Shelf → ⊥) → (cause_of status ≡ Entropy → ⊥) → (cause_of status ≡ Sink → ⊥) → Does means asks before after status → Completes means before after status
-  completes status done shelf entropy sink d = completes_by status (cause_of status) refl done shelf entropy sink d
+  pub completes : (status : Status) → (cause_of status ≡ Done → status ≡ answer.Done) → (cause_of status ≡ Shelf → ⊥) → (cause_of status ≡ Entropy → ⊥) → (cause_of status ≡ Crew → ⊥) → (cause_of status ≡ Sink → ⊥) → Does means asks before after status → Completes means before after status
+  completes status done shelf entropy crew sink d = completes_by status (cause_of status) refl done shelf entropy crew sink d
 
 -- ---- what the sink was given
 written_by : (changes : List Change) (text : List ℕ) (old new : Option Held) (told tells : Option (List ℕ)) (cause : Cause) → Carries changes text old new told tells cause → Writes told tells cause
@@ -199,6 +211,7 @@ written_by changes text old new told tells Done (changed, is) = (text, is)
 written_by changes text old new told tells Refusal carried = absurd carried
 written_by changes text old new told tells Shelf (part, same) = same
 written_by changes text old new told tells Entropy carried = absurd carried
+written_by changes text old new told tells Crew carried = absurd carried
 written_by changes text old new told tells Sink (changed, (n, le, is)) = (take n text, is)
 written_by changes text old new told tells Memory (part, same) = same
 
@@ -210,6 +223,7 @@ quiet_by told tells Done undone unsunk same = absurd (undone refl)
 quiet_by told tells Refusal undone unsunk same = same
 quiet_by told tells Shelf undone unsunk same = same
 quiet_by told tells Entropy undone unsunk same = same
+quiet_by told tells Crew undone unsunk same = same
 quiet_by told tells Sink undone unsunk same = absurd (unsunk refl)
 quiet_by told tells Memory undone unsunk same = same
 
@@ -223,17 +237,20 @@ never_rose before now e f rose = omega (arith, e, f, rose)
 pub carries_no_entropy : (changes : List Change) (text : List ℕ) (old new : Option Held) (told tells : Option (List ℕ)) (cause : Cause) → Carries changes text old new told tells cause → cause ≡ Entropy → ⊥
 carries_no_entropy changes text old new told tells cause carried e = subst (λ c. Carries changes text old new told tells c) e carried
 
+pub carries_no_crew : (changes : List Change) (text : List ℕ) (old new : Option Held) (told tells : Option (List ℕ)) (cause : Cause) → Carries changes text old new told tells cause → cause ≡ Crew → ⊥
+carries_no_crew changes text old new told tells cause carried e = subst (λ c. Carries changes text old new told tells c) e carried
+
 -- words that are no command
-pub usage_does : (words : List (List ℕ)) (held : Option Held) (coming : Option (List (List ℕ))) (told : Option (List ℕ)) → IsUsage words →
-    IfSome held (λ m. Does (Means words (record { held = m; coming = coming })) (AskForSeeds words m) (record { held = held; coming = coming; told = told }) (record { held = held; coming = coming; told = told }) answer.Usage)
-usage_does words None coming told none = tt
-usage_does words (Some m) coming told none = (0, ([], inl (none, refl)), record { held = refl; told = refl }, took_none coming)
+pub usage_does : (words : List (List ℕ)) (cuts : ℕ → ℕ) (held : Option Held) (coming : Option (List (List ℕ))) (told : Option (List ℕ)) → IsUsage words →
+    IfSome held (λ m. Does (Means words (record { held = m; coming = coming; cuts = cuts })) (AskForSeeds words m) (record { held = held; coming = coming; told = told }) (record { held = held; coming = coming; told = told }) answer.Usage)
+usage_does words cuts None coming told none = tt
+usage_does words cuts (Some m) coming told none = (0, ([], inl (none, refl)), record { held = refl; told = refl }, took_none coming)
 
 -- whatever is asked beside
-pub usage_whole : (words : List (List ℕ)) (held : Option Held) (coming : Option (List (List ℕ))) (told : Option (List ℕ)) (A B C D : Type 0) → IsUsage words →
-    IfSome held (λ m. A → B → C → D → Completes (Means words (record { held = m; coming = coming })) (record { held = held; coming = coming; told = told }) (record { held = held; coming = coming; told = told }) answer.Usage)
-usage_whole words None coming told A B C D none = tt
-usage_whole words (Some m) coming told A B C D none = λ a b c d.
-    let given : Given = record { held = m; coming = coming } in
+pub usage_whole : (words : List (List ℕ)) (cuts : ℕ → ℕ) (held : Option Held) (coming : Option (List (List ℕ))) (told : Option (List ℕ)) (A B C D E : Type 0) → IsUsage words →
+    IfSome held (λ m. A → B → C → D → E → Completes (Means words (record { held = m; coming = coming; cuts = cuts })) (record { held = held; coming = coming; told = told }) (record { held = held; coming = coming; told = told }) answer.Usage)
+usage_whole words cuts None coming told A B C D E none = tt
+usage_whole words cuts (Some m) coming told A B C D E none = λ a b c d e.
+    let given : Given = record { held = m; coming = coming; cuts = cuts } in
     let world : World = record { held = Some m; coming = coming; told = told } in
     inr (refused answer.Usage, refusal_whole (Means words given) (AskForSeeds words m) world world answer.Usage 0 ([], inl (none, refl)) (record { held = refl; told = refl }) (took_none coming))

@@ -6,6 +6,7 @@ use Rattle.std.specs.Str.{bytes_eq}
 use Rattle.std.proofs.lemmas.Bool.{lt-ltb, cases_lt}
 use Rattle.std.proofs.lemmas.Bool.Decides.{nat_tests}
 use Rattle.std.proofs.lemmas.List.FromFn.{get_or-map-range_with_len, length-map-range_with_len}
+use Rattle.sharing61.specs.Count.{how_many}
 use Rattle.talk.specs.Shape.{Shape}
 use Rattle.drillbook.specs.declared.order.Order.{Order}
 use Rattle.drillbook.specs.Orders.{names}
@@ -26,7 +27,7 @@ use Rattle.keyroom.proofs.Counting.{few_down}
 use Rattle.keyroom.proofs.Working.{and_then_ok}
 use Rattle.committee.specs.Drill.{drill_of}
 use Rattle.committee.specs.Phase.{IsReady}
-use Rattle.committee.specs.Standing.{Standing, may_go_on, standing_at, next_asked}
+use Rattle.committee.specs.Standing.{Standing, down_in, may_go_on, standing_at, next_asked}
 use Rattle.committee.proofs.Drills.{FromSteps, drill_refuses}
 
 -- ---- what the steps refuse with
@@ -93,6 +94,13 @@ not_last false period next is e = is
 below_last : (period : ℕ) → period < 2 ^ 32 → (period == 4294967295) ≡ false → period < 4294967295
 below_last period lt e = grind (arith, nat_tests)
 
+-- at most the bound is down
+pub few_standing : (setting : Now → Shape) (name : List ℕ) (drill : Option (List ℕ)) (held : Held) (st : Standing) → Stands setting name drill held st → how_many st.now.n (down_in st) ≤ st.now.t
+few_standing setting name drill held st s =
+    let all : length st.files ≡ st.now.n = ap length s.files ∙ length-map-range_with_len (share_of st.now held) 1 st.now.n in
+    let steps = and_then_ok (enough_sound st.now (sound_among (names st.orders) st.files)) (λ enough. next_period_of st.now) s.period s.goes_on in
+    few_down (names st.orders) st.files st.now.n st.now.t all (enough_cases (length (sound_among (names st.orders) st.files)) (st.now.n - st.now.t) steps.0 (cases_lt (length (sound_among (names st.orders) st.files)) (st.now.n - st.now.t)) steps.1)
+
 pub stands_ready : (setting : Now → Shape) (name : List ℕ) (drill : Option (List ℕ)) (held : Held) (st : Standing) → Stands setting name drill held st → IsNow st.now → IsReady st
 stands_ready setting name drill held st s is =
     let all : length st.files ≡ st.now.n = ap length s.files ∙ length-map-range_with_len (share_of st.now held) 1 st.now.n in
@@ -100,7 +108,7 @@ stands_ready setting name drill held st s is =
     record {
       is_now = is;
       all = all;
-      few = few_down (names st.orders) st.files st.now.n st.now.t all (enough_cases (length (sound_among (names st.orders) st.files)) (st.now.n - st.now.t) steps.0 (cases_lt (length (sound_among (names st.orders) st.files)) (st.now.n - st.now.t)) steps.1);
+      few = few_standing setting name drill held st s;
       next = below_last st.now.period is.period_fits (not_last (st.now.period == 4294967295) st.now.period s.period refl steps.2);
     }
 

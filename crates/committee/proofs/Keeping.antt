@@ -1,5 +1,5 @@
 -- What a refresh means adds shares of 0, and keeps the key.
-use Rattle.std.proofs.Common.{◌≡◌, ℕ, ◌-◌, ◌<◌, ◌≤◌, Bool, true, false, List, ◌∷◌, length, get_or, take, Option, Some, None, Result, Ok, Err, refl, sym, ap, ap₂, ◌∙◌, subst, arith}
+use Rattle.std.proofs.Common.{◌≡◌, ℕ, ◌-◌, ◌<◌, ◌≤◌, Bool, true, false, ◌⊎◌, inl, inr, List, [], ◌∷◌, length, get_or, take, Option, Some, None, Result, Ok, Err, refl, sym, ap, ap₂, ◌∙◌, subst, arith}
 use Rattle.std.specs.Prelude.{IfSome}
 use Rattle.std.proofs.lemmas.Bool.Decides.{nat_tests}
 use Rattle.std.proofs.lemmas.List.{take_all}
@@ -9,8 +9,9 @@ use Rattle.algebra61.specs.Poly.{eval, add_list}
 use Rattle.algebra61.specs.Polynomial.{Polynomial}
 use Rattle.algebra61.proofs.PolyOps.{eval-add, length-add}
 use Rattle.algebra61.proofs.Ring.{zero_add, zero_mul, add_zero}
-use Rattle.sizes.specs.Committees.{is_bound}
-use Rattle.talk.specs.Shape.{Shape, refresh_shape}
+use Rattle.sharing61.specs.Count.{how_many}
+use Rattle.sizes.specs.Committees.{IsCommittee, is_bound}
+use Rattle.talk.specs.Shape.{Shape, refresh_shape, rounds}
 use Rattle.plays.specs.Play.{Play}
 use Rattle.periods.specs.Refresh.{refreshed_share}
 use Rattle.periods.proofs.Refreshing.{refreshed_by_one}
@@ -25,17 +26,20 @@ use Rattle.keyroom.specs.Decoding.{lane_of, EnoughLieOn}
 use Rattle.keyroom.specs.Outcome.{Outcome, ThenDo}
 use Rattle.keyroom.specs.Steps.{share_of, files_of, HasShare}
 use Rattle.keyroom.specs.Words.{Refresh}
-use Rattle.keyroom.proofs.Reading.{now_read}
+use Rattle.keyroom.proofs.Reading.{now_read, now_checked}
 use Rattle.committee.specs.Begins.{HasBegun, GoesOn}
-use Rattle.committee.specs.Kept.{AddsZeroShares, IsRefreshed, KeyStays, ReadsNow, undrilled}
+use Rattle.committee.specs.Kept.{AddsZeroShares, IsRefreshed, KeyStays, ReadsNow, files_without}
+use Rattle.committee.specs.Late.{down_after}
 use Rattle.committee.specs.Links.{next_now}
 use Rattle.committee.specs.Phase.{IsReady}
-use Rattle.committee.specs.Refresh.{refresh_asked, keeping, AreRefreshMasks, play_refreshed, old_shares, new_shares, refresh_changes, Refreshes, MeansRefresh}
-use Rattle.committee.specs.Standing.{Standing, down_in, Holding, holding_or_none}
+use Rattle.committee.specs.Refresh.{refresh_asked, keeping, AreRefreshMasks, play_refreshed, old_shares, new_shares, refresh_changes, refresh_outcome, Refreshes, MeansRefresh}
+use Rattle.committee.specs.Standing.{Standing, down_in, seeds_for, Holding, holding_or_none}
 use Rattle.committee.proofs.Beginning.{periods_go_on, begun_now, begun_file}
+use Rattle.committee.proofs.Committees.{committee_of}
 use Rattle.committee.proofs.Drills.{FromSteps}
-use Rattle.committee.proofs.GoingOn.{Stands, asked_refuses, stands_ready, read_ready, file_at}
+use Rattle.committee.proofs.GoingOn.{Stands, asked_refuses, asked_stands, few_standing, stands_ready, read_ready, file_at}
 use Rattle.committee.proofs.Holdings.{takes_part, up_is}
+use Rattle.committee.proofs.Late.{IsEnough, after_up, up_after, done_enough, enough_or_nothing}
 use Rattle.committee.proofs.Links.{next_is_now}
 use Rattle.committee.proofs.Refreshed.{proper_refresh, refresh_honest}
 use Rattle.committee.proofs.Staying.{fine_counts, is_sound_on, sound_many, honest_before, IsCarried, CarriesOn, part_stays}
@@ -45,20 +49,54 @@ use Rattle.committee.proofs.Staying.{fine_counts, is_sound_on, sound_many, hones
 abbrev pub refresh_setting : Now → Shape
 refresh_setting now = refresh_shape now.n now.t
 
--- a refresh that is done: what it found, and what it did
-pub record WasRefreshed (name : List ℕ) (drill : Option (List ℕ)) (held : Held) (coming : Option (List (List ℕ))) (masks : List ℕ) (outcome : Outcome) : Type 0 where
+-- a refresh that is done: what it found, and what it did under these masks
+pub record WasRefreshed (name : List ℕ) (drill : Option (List ℕ)) (held : Held) (cuts : ℕ → ℕ) (masks : List ℕ) (outcome : Outcome) : Type 0 where
   pub st : Standing
   pub asked : refresh_asked name drill held ≡ Ok st
-  pub refreshes : Refreshes coming masks st outcome
+  pub seeds : List (List ℕ)
+  pub allowed : AreRefreshMasks st seeds cuts masks
+  pub few : how_many st.now.n (down_after (down_in st) masks) ≤ st.now.t
+  pub is : outcome ≡ refresh_outcome st seeds masks (play_refreshed st seeds masks)
 
-asked_cases : (name : List ℕ) (drill : Option (List ℕ)) (held : Held) (coming : Option (List (List ℕ))) (masks : List ℕ) (outcome : Outcome) (r : Result Standing Status) →
-    refresh_asked name drill held ≡ r → outcome.status ≡ Done → ThenDo r (Refreshes coming masks) outcome → WasRefreshed name drill held coming masks outcome
-asked_cases name drill held coming masks outcome (Ok st) e done c = record { st = st; asked = e; refreshes = c }
-asked_cases name drill held coming masks outcome (Err status) e done c = absurd (subst FromSteps (sym (ap (λ (o : Outcome). o.status) c) ∙ done) (asked_refuses refresh_setting name drill held status e))
+-- whose key stands before it
+pub asked_committee : (name : List ℕ) (drill : Option (List ℕ)) (held : Held) (st : Standing) → refresh_asked name drill held ≡ Ok st → IsCommittee st.now.n st.now.t
+asked_committee name drill held st asked =
+    let checked = now_checked name held st.now (asked_stands refresh_setting name drill held st asked).now_is in
+    committee_of st.now.n st.now.t checked.size checked.bound
 
-pub was_refreshed : (name : List ℕ) (drill : Option (List ℕ)) (held : Held) (coming : Option (List (List ℕ))) (masks : List ℕ) (outcome : Outcome) →
-    MeansRefresh name drill held coming masks outcome → outcome.status ≡ Done → WasRefreshed name drill held coming masks outcome
-was_refreshed name drill held coming masks outcome means done = asked_cases name drill held coming masks outcome (refresh_asked name drill held) refl done means
+pub asked_files : (name : List ℕ) (drill : Option (List ℕ)) (held : Held) (st : Standing) → refresh_asked name drill held ≡ Ok st → length st.files ≡ st.now.n
+asked_files name drill held st asked = ap length (asked_stands refresh_setting name drill held st asked).files ∙ length-map-range_with_len (share_of st.now held) 1 st.now.n
+
+-- before the phase at most the bound is down
+pub asked_few : (name : List ℕ) (drill : Option (List ℕ)) (held : Held) (st : Standing) → refresh_asked name drill held ≡ Ok st → how_many st.now.n (down_in st) ≤ st.now.t
+asked_few name drill held st asked = few_standing refresh_setting name drill held st (asked_stands refresh_setting name drill held st asked)
+
+module _ (name : List ℕ) (drill : Option (List ℕ)) (held : Held) (coming : Option (List (List ℕ))) (cuts : ℕ → ℕ) (masks : List ℕ) (outcome : Outcome) where
+  enough_left : (st : Standing) → refresh_asked name drill held ≡ Ok st → (r : Refreshes coming cuts masks st outcome) →
+      IsEnough (seeds_for st) st.now.n st.now.t (down_after (down_in st) masks) (refresh_outcome st r.0 masks (play_refreshed st r.0 masks)) → WasRefreshed name drill held cuts masks outcome
+  enough_left st asked r enough = record { st = st; asked = asked; seeds = r.0; allowed = r.3; few = enough.few; is = r.4 ∙ enough.is }
+
+  asked_cases : (r : Result Standing Status) → refresh_asked name drill held ≡ r → outcome.status ≡ Done → ThenDo r (Refreshes coming cuts masks) outcome → WasRefreshed name drill held cuts masks outcome
+  asked_cases (Ok st) e done c =
+      enough_left st e c
+      (done_enough (seeds_for st) st.now.n st.now.t (down_after (down_in st) masks) (refresh_outcome st c.0 masks (play_refreshed st c.0 masks))
+      (omega (arith, (asked_committee name drill held st e).third)) (sym (ap (λ (o : Outcome). o.status) c.4) ∙ done))
+  asked_cases (Err status) e done c = absurd (subst FromSteps (sym (ap (λ (o : Outcome). o.status) c) ∙ done) (asked_refuses refresh_setting name drill held status e))
+
+  pub was_refreshed : MeansRefresh name drill held coming cuts masks outcome → outcome.status ≡ Done → WasRefreshed name drill held cuts masks outcome
+  was_refreshed means done = asked_cases (refresh_asked name drill held) refl done means
+
+  end_cases : (r : Result Standing Status) → refresh_asked name drill held ≡ r → ThenDo r (Refreshes coming cuts masks) outcome → WasRefreshed name drill held cuts masks outcome ⊎ (outcome.changes ≡ [])
+  end_cases (Ok st) e c =
+      elim (enough_or_nothing (seeds_for st) st.now.n st.now.t (down_after (down_in st) masks) (refresh_outcome st c.0 masks (play_refreshed st c.0 masks)) (omega (arith, (asked_committee name drill held st e).third))) [
+        | inl enough ↦ inl (enough_left st e c enough)
+        | inr none ↦ inr (ap (λ (o : Outcome). o.changes) c.4 ∙ none)
+      ]
+  end_cases (Err status) e c = inr (ap (λ (o : Outcome). o.changes) c)
+
+  -- whatever it comes to, it is done or changes nothing
+  pub refresh_ends : MeansRefresh name drill held coming cuts masks outcome → WasRefreshed name drill held cuts masks outcome ⊎ (outcome.changes ≡ [])
+  refresh_ends means = end_cases (refresh_asked name drill held) refl means
 
 -- what was read tells that the now file's fields are in their ranges
 pub reads_now : (name : List ℕ) (drill : Option (List ℕ)) (held : Option Held) (st : Standing) → IfSome held (λ m. refresh_asked name drill m ≡ Ok st) → IsReady st → IfSome held (ReadsNow (Refresh name drill))
@@ -66,18 +104,24 @@ reads_now name drill None st asked ready = tt
 reads_now name drill (Some m) st asked ready = read_ready refresh_setting name drill m st asked ready
 
 -- ---- a refresh that is done
-module _ (name : List ℕ) (drill : Option (List ℕ)) (held : Held) (st : Standing) (s : Stands refresh_setting name drill held st) (is : IsNow st.now) (seeds : List (List ℕ)) (masks : List ℕ) (allowed : AreRefreshMasks st seeds masks) where
+module _ (name : List ℕ) (drill : Option (List ℕ)) (held : Held) (st : Standing) (s : Stands refresh_setting name drill held st) (is : IsNow st.now) (seeds : List (List ℕ)) (masks : List ℕ) (every : length masks ≡ rounds (refresh_setting st.now)) (few : how_many st.now.n (down_after (down_in st) masks) ≤ st.now.t) where
   abbrev play : Play
   play = play_refreshed st seeds masks
 
   ready : IsReady st
   ready = stands_ready refresh_setting name drill held st s is
 
-  abbrev new : Now
-  new = next_now st.now (down_in st)
+  committee : IsCommittee st.now.n st.now.t
+  committee = committee_of st.now.n st.now.t is.size is.bound
 
-  new_is : IsNow (next_now st.now (down_in st))
-  new_is = next_is_now st.now (down_in st) is ready.next ready.few
+  abbrev down : ℕ → Bool
+  down = down_after (down_in st) masks
+
+  abbrev new : Now
+  new = next_now st.now (down_after (down_in st) masks)
+
+  new_is : IsNow (next_now st.now (down_after (down_in st) masks))
+  new_is = next_is_now st.now (down_after (down_in st) masks) is ready.next few
 
   abbrev lanes : ℕ → List Fp
   lanes = new_shares st seeds (play_refreshed st seeds masks)
@@ -88,8 +132,8 @@ module _ (name : List ℕ) (drill : Option (List ℕ)) (held : Held) (st : Stand
   abbrev changes : List Change
   changes = refresh_changes st seeds (play_refreshed st seeds masks)
 
-  goes : GoesOn st.now (next_now st.now (down_in st)) (down_in st) (new_shares st seeds (play_refreshed st seeds masks)) (refresh_changes st seeds (play_refreshed st seeds masks)) held
-  goes = periods_go_on st.now (next_now st.now (down_in st)) (down_in st) (new_shares st seeds (play_refreshed st seeds masks)) held (record { was = is; is = new_is; name = refl; period = refl })
+  goes : GoesOn st.now (next_now st.now (down_after (down_in st) masks)) (down_after (down_in st) masks) (new_shares st seeds (play_refreshed st seeds masks)) (refresh_changes st seeds (play_refreshed st seeds masks)) held
+  goes = periods_go_on st.now (next_now st.now (down_after (down_in st) masks)) (down_after (down_in st) masks) (new_shares st seeds (play_refreshed st seeds masks)) held (record { was = is; is = new_is; name = refl; period = refl })
 
   named : st.now.name ≡ name
   named = (now_read name held st.now s.now_is).named
@@ -100,9 +144,9 @@ module _ (name : List ℕ) (drill : Option (List ℕ)) (held : Held) (st : Stand
     has : HasShare st.now held j was
     old : old_shares st seeds j ≡ was.lanes
 
-  had_share : (j : ℕ) → 1 ≤ j → j ≤ st.now.n → down_in st j ≡ false → HadShare j
+  had_share : (j : ℕ) → 1 ≤ j → j ≤ st.now.n → down_after (down_in st) masks j ≡ false → HadShare j
   had_share j from to up =
-      let t = takes_part (keeping (st.now.t - 1)) 1 st.files seeds (j - 1) j (omega (arith, from)) (up_is st j up).1 in
+      let t = takes_part (keeping (st.now.t - 1)) 1 st.files seeds (j - 1) j (omega (arith, from)) (up_is st j (after_up (down_in st) masks j up).0).1 in
       record {
         was = t.share;
         has = sym (file_at st.now held j from to) ∙ sym (ap (λ (fs : List Found). get_or fs (j - 1) Absent) s.files) ∙ t.file_is;
@@ -116,12 +160,12 @@ module _ (name : List ℕ) (drill : Option (List ℕ)) (held : Held) (st : Stand
   record Added (lane : ℕ) : Type 0 where
     h : List Fp
     short : length h ≤ st.now.t
-    adds : (j : ℕ) (was : Share) → 1 ≤ j → j ≤ st.now.n → down_in st j ≡ false → HasShare st.now held j was →
+    adds : (j : ℕ) (was : Share) → 1 ≤ j → j ≤ st.now.n → down_after (down_in st) masks j ≡ false → HasShare st.now held j was →
         get_or (new_shares st seeds (play_refreshed st seeds masks) j) lane zeroₚ ≡ get_or was.lanes lane zeroₚ +ₚ fe j *ₚ eval h (fe j)
 
   added : (lane : ℕ) → lane < 5 → Added lane
   added lane lt =
-      let one = refreshed_by_one play lane (proper_refresh st ready seeds masks allowed) lt in
+      let one = refreshed_by_one play lane (proper_refresh st committee ready.all seeds masks every few) lt in
       record {
         h = one.0;
         short = omega (arith, one.1.short, some_bad st.now.t is.bound);
@@ -130,17 +174,17 @@ module _ (name : List ℕ) (drill : Option (List ℕ)) (held : Held) (st : Stand
             let same : had.was ≡ was = let e = sym had.has ∙ has in cc in
             get_or-map-range_with_len (λ l. refreshed_share play l j (get_or (old_shares st seeds j) l zeroₚ)) 0 5 lane lane zeroₚ lt (omega arith)
             ∙ ap (λ (xs : List Fp). refreshed_share play lane j (get_or xs lane zeroₚ)) (had.old ∙ ap (λ (f : Share). f.lanes) same)
-            ∙ one.2 j (get_or was.lanes lane zeroₚ) (refresh_honest st ready seeds masks allowed j from to up);
+            ∙ one.2 j (get_or was.lanes lane zeroₚ) (refresh_honest st committee ready.all seeds masks every j from to up);
       }
 
-  module _ (later : Held) (begun : HasBegun (next_now st.now (down_in st)) (down_in st) (new_shares st seeds (play_refreshed st seeds masks)) later) where
-    adds_zero_shares : AddsZeroShares st.now (next_now st.now (down_in st)) held later
+  module _ (later : Held) (begun : HasBegun (next_now st.now (down_after (down_in st) masks)) (down_after (down_in st) masks) (new_shares st seeds (play_refreshed st seeds masks)) later) where
+    adds_zero_shares : AddsZeroShares st.now (next_now st.now (down_after (down_in st) masks)) held later
     adds_zero_shares lane lt =
         let a = added lane lt in (
           a.h,
           a.short,
           λ j file from to valid.
-              let m = begun_file new (down_in st) lanes later new_is begun j file from to (five j) valid in
+              let m = begun_file new (down_after (down_in st) masks) lanes later new_is begun j file from to (five j) valid in
               let had = had_share j from to m.up in
               (had.was, had.has, ap (λ (xs : List Fp). get_or xs lane zeroₚ) m.has ∙ a.adds j had.was from to m.up had.has),
         )
@@ -148,7 +192,7 @@ module _ (name : List ℕ) (drill : Option (List ℕ)) (held : Held) (st : Stand
     was_begun : IsRefreshed name st.now held later
     was_begun = record {
       now = new;
-      now_is = begun_now new (down_in st) lanes later new_is begun name named;
+      now_is = begun_now new (down_after (down_in st) masks) lanes later new_is begun name named;
       size = refl;
       bound = refl;
       period = refl;
@@ -162,18 +206,19 @@ module _ (name : List ℕ) (drill : Option (List ℕ)) (held : Held) (st : Stand
       (was_begun (after (take (length changes) changes) held) (goes.late (length changes) goes.there))
 
   -- ---- the polynomials afterwards
-  module _ (polys : List Polynomial) (enough : EnoughLieOn st.now.n st.now.t (undrilled st.orders 1 (files_of st.now held)) polys) where
+  module _ (polys : List Polynomial) (enough : EnoughLieOn st.now.n st.now.t (files_without (down_after (names st.orders) masks) 1 (files_of st.now held)) polys) where
     abbrev sound : ℕ → Bool
-    sound = is_sound_on polys st.orders (share_of st.now held)
+    sound = is_sound_on polys (down_after (names st.orders) masks) (share_of st.now held)
 
     -- a member that counts before isn't down
-    sound_up : (j : ℕ) → 1 ≤ j → j ≤ st.now.n → sound j ≡ true → down_in st j ≡ false
+    sound_up : (j : ℕ) → 1 ≤ j → j ≤ st.now.n → sound j ≡ true → down_after (down_in st) masks j ≡ false
     sound_up j from to e =
-        let c = fine_counts polys j (names st.orders j) (share_of st.now held j) e in
+        let c = fine_counts polys j (down_after (names st.orders) masks j) (share_of st.now held j) e in
         let file : get_or st.files (j - 1) Absent ≡ Valid c.file = ap (λ (fs : List Found). get_or fs (j - 1) Absent) s.files ∙ file_at st.now held j from to ∙ c.is in
-        rw (c.unnamed, file) refl
+        let told = after_up (names st.orders) masks j c.kept in
+        up_after (down_in st) masks j (rw (told.0, file) refl) told.1
 
-    carry : (lane : ℕ) → lane < 5 → (f : List Fp) × IsCarried (next_now st.now (down_in st)) (new_shares st seeds (play_refreshed st seeds masks)) (is_sound_on polys st.orders (share_of st.now held)) lane (lane_of polys lane) f
+    carry : (lane : ℕ) → lane < 5 → (f : List Fp) × IsCarried (next_now st.now (down_after (down_in st) masks)) (new_shares st seeds (play_refreshed st seeds masks)) (is_sound_on polys (down_after (names st.orders) masks) (share_of st.now held)) lane (lane_of polys lane) f
     carry lane lt =
         let a = added lane lt in
         let p : List Fp = (lane_of polys lane).coeffs in (
@@ -182,19 +227,19 @@ module _ (name : List ℕ) (drill : Option (List ℕ)) (held : Held) (st : Stand
             short = omega (arith, length-add p (zeroₚ ∷ a.h), a.short, enough.short lane lt);
             at_zero = eval-add p (zeroₚ ∷ a.h) zeroₚ ∙ simp (zero_mul, add_zero);
             values = λ j from to e.
-                let c = fine_counts polys j (names st.orders j) (share_of st.now held j) e in
+                let c = fine_counts polys j (down_after (names st.orders) masks j) (share_of st.now held j) e in
                 eval-add p (zeroₚ ∷ a.h) (fe j)
                 ∙ ap₂ (λ x y. x +ₚ y) (c.on lane lt) (zero_add (fe j *ₚ eval a.h (fe j)))
                 ∙ sym (a.adds j c.file from to (sound_up j from to e) c.is);
           },
         )
 
-    carries_on : CarriesOn (next_now st.now (down_in st)) (down_in st) (new_shares st seeds (play_refreshed st seeds masks)) polys
-    carries_on = record { good = sound; up = sound_up; many = sound_many st.now held st.orders polys enough; carry = carry }
+    carries_on : CarriesOn (next_now st.now (down_after (down_in st) masks)) (down_after (down_in st) masks) (new_shares st seeds (play_refreshed st seeds masks)) polys
+    carries_on = record { good = sound; up = sound_up; many = sound_many st.now held (down_after (names st.orders) masks) polys enough; carry = carry }
 
     -- after any part of the changes the key is there
     pub refresh_stays : (count : ℕ) → KeyStays name st.now polys held (after (take count (refresh_changes st seeds (play_refreshed st seeds masks))) held)
     refresh_stays count =
-        part_stays name st.now (next_now st.now (down_in st)) (down_in st) (new_shares st seeds (play_refreshed st seeds masks)) held polys named new_is five
-        (honest_before name st.now held st.orders polys s.now_is enough) carries_on
+        part_stays name st.now (next_now st.now (down_after (down_in st) masks)) (down_after (down_in st) masks) (new_shares st seeds (play_refreshed st seeds masks)) held polys named new_is five
+        (honest_before name st.now held (down_after (names st.orders) masks) polys s.now_is enough) carries_on
         (refresh_changes st seeds (play_refreshed st seeds masks)) count named goes

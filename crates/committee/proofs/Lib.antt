@@ -1,8 +1,12 @@
 pub mod Links
 pub mod Marks
+pub mod Late
+pub mod Left
+pub mod Pacing
 pub mod Doing
 pub mod Asked
 pub mod Drawing
+pub mod Ran
 pub mod Pushing
 pub mod Shelves
 pub mod Given
@@ -12,10 +16,12 @@ pub mod Created
 pub mod Committees
 pub mod Drills
 pub mod GoingOn
+pub mod Attending
 pub mod Holdings
 pub mod Refreshed
 pub mod Movers
 pub mod Moved
+pub mod Downs
 pub mod Outs
 pub mod OneMeaning
 pub mod Seeding
@@ -25,9 +31,11 @@ pub mod Beginning
 pub mod Agreement
 pub mod Creating
 pub mod Planned
+pub mod Ended
 pub mod Staying
 pub mod Keeping
 pub mod Kept
+pub mod Uncut
 pub mod Shared
 pub mod Carrying
 pub mod MoveLaws

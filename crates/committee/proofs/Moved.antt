@@ -1,5 +1,5 @@
 -- The minds of a move run as its seats do, and the new members' come to what the play defines.
-use Rattle.std.proofs.Common.{◌≡◌, ℕ, zero, suc, ◌+◌, ◌-◌, ◌<◌, ◌≤◌, Bool, true, false, List, [], ◌∷◌, ◌++◌, length, map, replicate, get_or, take, drop, Option, Some, None, refl, sym, ap, ap₂, ◌∙◌, subst, arith}
+use Rattle.std.proofs.Common.{◌≡◌, ℕ, zero, suc, ◌+◌, ◌-◌, ◌<◌, ◌≤◌, Bool, true, false, List, [], ◌∷◌, ◌++◌, length, map, replicate, get_or, take, drop, Option, Some, None, Ok, refl, sym, ap, ap₂, ◌∙◌, subst, arith}
 use Rattle.std.specs.List.{range_with_len}
 use Rattle.std.proofs.lemmas.List.{map-append, length-map, get_or-append_right}
 use Rattle.std.proofs.lemmas.List.FromFn.{get_or-map-range_with_len}
@@ -11,7 +11,8 @@ use Rattle.talk.specs.declared.part.Part.TheVariants.{In}
 use Rattle.talk.specs.Part.{part_ways, part_is}
 use Rattle.talk.specs.Hears.{Hearing, Seated}
 use Rattle.talk.specs.Shape.{Shape, seats, rounds, move_shape}
-use Rattle.talk.specs.Sync.{AllAllowed, all_seats, nobody, sync}
+use Rattle.sharing61.specs.Count.{how_many}
+use Rattle.talk.specs.Sync.{AllAllowed, all_seats, sync}
 use Rattle.talk.specs.Basics.{Nth}
 use Rattle.plays.specs.Play.{Play, seat_of}
 use Rattle.plays.specs.Transcript.{posts_in, transcript_of}
@@ -29,14 +30,15 @@ use Rattle.moveshare.specs.Laws.{DefinesOut}
 use Rattle.moveshare.proofs.Playing.{comes_to_play}
 use Rattle.drillbook.specs.declared.order.Order.{Order}
 use Rattle.drillbook.specs.Word.{DrilledMind, drilled_ways}
-use Rattle.committee.specs.Move.{moving_of, down_moving, moving, new_member, seats_in, mover_on, movers_on, AreMoveMasks, play_moved, new_down}
+use Rattle.committee.specs.Move.{moving_of, moving, new_member, seats_in, mover_on, movers_on, AreMoveMasks, play_moved, new_down, enough_moved}
 use Rattle.committee.specs.declared.moving_phase.Moved.{Moved}
-use Rattle.committee.specs.MovePhase.{MayMove, IsMovePhase, down_new, old_on, new_on, minds_on, IsEnd, accepted_at, ComesTo, OutIs, AllCome, AreOuts}
+use Rattle.committee.specs.MovePhase.{MayMove, IsMovePhase, old_on, new_on, minds_on, IsEnd, accepted_at, ComesTo, OutIs, AllCome, AreOuts}
 use Rattle.committee.specs.Phase.{marked, marks_of, AllDone, accepted_first}
 use Rattle.committee.specs.Run.{numbered, drilled_on, drilled_all}
 use Rattle.committee.specs.Standing.{Standing, Holding, holdings}
 use Rattle.committee.proofs.Alike.{SeenAs, sync_same, allowed_same, sync_keeps, nth_map, nth_of_map, drilled_see, see_drilled, drilled_seen}
-use Rattle.committee.proofs.Movers.{CanMove, can_move, length-old, length-seats, own, new_few, proper_move, move_honest, move_heard, move_ends}
+use Rattle.committee.proofs.Left.{both_left}
+use Rattle.committee.proofs.Movers.{CanMove, can_move, length-old, length-seats, own, proper_move, move_honest, move_heard, move_ends}
 use Rattle.committee.proofs.Phases.{drilled_hearing, drilled_seated, length-numbered, EndsAs, ends_here, ends_later, ends_marked, all_done, accepted_same, SomeUp, some_up, some_marked, marks_right, nth_get}
 
 -- ---- lists
@@ -137,12 +139,12 @@ module _ (N M : ℕ) (st : Standing) (m u : ℕ) (can : CanMove st m u) (seeds :
       length-numbered (drilled_on shape st.orders) 1 minds ∙ sym (length-map minds part_of) ∙ ap length minds_seen
       ∙ length-numbered (mover_on shape) 1 (seats_in st m u seeds) ∙ length-seats st m u can seeds
 
-  module _ (masks : List ℕ) (all : length masks ≡ rounds (moving_of st m u)) (allowed : AllAllowed (drilled_ways (mind_ways {N = N} {M = M})) (moving_of st m u) 1 (all_seats (moving_of st m u)) nobody masks (drilled_all (moving_of st m u) st.orders minds)) where
-    pub move_masks : AreMoveMasks st m u seeds masks
+  module _ (cuts : ℕ → ℕ) (masks : List ℕ) (all : length masks ≡ rounds (moving_of st m u)) (allowed : AllAllowed (drilled_ways (mind_ways {N = N} {M = M})) (moving_of st m u) 1 (all_seats (moving_of st m u)) cuts masks (drilled_all (moving_of st m u) st.orders minds)) where
+    pub move_masks : AreMoveMasks st m u seeds cuts masks
     move_masks = (
       all,
-      subst (AllAllowed (drilled_ways (part_ways mover_ways)) shape 1 (all_seats shape) nobody masks) drilled_same
-          (allowed_same (drilled_ways mind_ways) (drilled_ways (part_ways mover_ways)) (drilled_see part_of) (drilled_seen part_of mind_ways (part_ways mover_ways) seen) shape 1 (all_seats shape) nobody masks (drilled_all shape st.orders minds) allowed),
+      subst (AllAllowed (drilled_ways (part_ways mover_ways)) shape 1 (all_seats shape) cuts masks) drilled_same
+          (allowed_same (drilled_ways mind_ways) (drilled_ways (part_ways mover_ways)) (drilled_see part_of) (drilled_seen part_of mind_ways (part_ways mover_ways) seen) shape 1 (all_seats shape) cuts masks (drilled_all shape st.orders minds) allowed),
     )
 
     abbrev play : Play
@@ -194,7 +196,7 @@ module _ (N M : ℕ) (st : Standing) (m u : ℕ) (can : CanMove st m u) (seeds :
     unfolding EndsAs
     receivers_end k lt up =
         let less : k < m = omega (arith, lt, length-receivers) in
-        let end = move_ends st m u can seeds masks move_masks (1 + k) (move_honest st m u can seeds masks move_masks (1 + k) (omega arith) (omega (arith, less)) up) in
+        let end = move_ends st m u can seeds cuts masks move_masks (1 + k) (move_honest st m u can seeds cuts masks move_masks (1 + k) (omega arith) (omega (arith, less)) up) in
         let place : st.now.n + (1 + k) - 1 ≡ st.now.n + k = omega arith in
         let there : Nth (st.now.n + k) end.0 (map (drilled_see part_of) after) = subst (λ ds. Nth (st.now.n + k) end.0 ds) (sym after_seen) (subst (λ (i : ℕ). Nth i end.0 (sync (drilled_ways (part_ways mover_ways)) shape 1 masks (drilled_all shape st.orders (movers_on shape (seats_in st m u seeds))))) place end.1) in
         let back = nth_of_map (drilled_see part_of) (st.now.n + k) end.0 after there in
@@ -207,51 +209,51 @@ module _ (N M : ℕ) (st : Standing) (m u : ℕ) (can : CanMove st m u) (seeds :
 
     -- the same for the marks of who is down
     abbrev at : ℕ → Bool
-    at = marked (marks_of (down_new st) m)
+    at = marked (marks_of (new_down (play_moved st m u seeds masks)) m)
 
     at_is : (j : ℕ) → 1 ≤ j → j ≤ m → at j ≡ new_down play j
-    at_is j from to = marks_right (down_new st) m j from to ∙ ap (λ (n : ℕ). down_moving st (n + j)) can.all
+    at_is j from to = marks_right (new_down play) m j from to
 
     ends_at : EndsAs (λ (mind : MoveMind N M) (mover : Mover). mind ≡ New mover) (mover_done play (own st m u can seeds) posts) at 1 receivers
     ends_at =
         ends_marked (λ (mind : MoveMind N M) (mover : Mover). mind ≡ New mover) (mover_done play (own st m u can seeds) posts) (new_down play) at 1 receivers
         (λ k lt. at_is (1 + k) (omega arith) (omega (arith, lt, length-receivers))) receivers_end
 
-    pub receivers_done : AllDone IsEnd (marked (marks_of (down_new st) m)) 1 receivers
+    pub receivers_done : AllDone IsEnd (marked (marks_of (new_down (play_moved st m u seeds masks)) m)) 1 receivers
     receivers_done =
         all_done (λ (mind : MoveMind N M) (mover : Mover). mind ≡ New mover) (mover_done play (own st m u can seeds) posts) IsEnd (λ j mind is. subst IsEnd (sym is) tt) at 1 receivers ends_at
 
-    some_new : SomeUp (new_down play) 1 m
-    some_new =
-        let few = new_few st m u can seeds masks move_masks in
-        some_up (new_down play) m (omega (arith, few, can.new.third))
+    -- where enough of the new members are left
+    module _ (few : how_many m (new_down (play_moved st m u seeds masks)) ≤ u) where
+      some_new : SomeUp (new_down play) 1 m
+      some_new = some_up (new_down play) m (omega (arith, few, can.new.third))
 
-    pub receivers_accepted : accepted_first accepted_at (marked (marks_of (down_new st) m)) 1 receivers ≡ accepted_count (play_moved st m u seeds masks)
-    receivers_accepted =
-        accepted_same (λ (mind : MoveMind N M) (mover : Mover). mind ≡ New mover) (mover_done play (own st m u can seeds) posts) accepted_at (accepted_count play)
-        (λ j mind is. ap accepted_at is ∙ (done_is_play play j (member_done play (own st m u can seeds) j) (record { shape = refl; stage = refl })).accepted) at 1 receivers ends_at
-        (subst (SomeUp at 1) (sym length-receivers) (some_marked (new_down play) at m at_is some_new))
+      pub receivers_accepted : accepted_first accepted_at (marked (marks_of (new_down (play_moved st m u seeds masks)) m)) 1 receivers ≡ accepted_count (play_moved st m u seeds masks)
+      receivers_accepted =
+          accepted_same (λ (mind : MoveMind N M) (mover : Mover). mind ≡ New mover) (mover_done play (own st m u can seeds) posts) accepted_at (accepted_count play)
+          (λ j mind is. ap accepted_at is ∙ (done_is_play play j (member_done play (own st m u can seeds) j) (record { shape = refl; stage = refl })).accepted) at 1 receivers ends_at
+          (subst (SomeUp at 1) (sym length-receivers) (some_marked (new_down play) at m at_is some_new))
 
-    -- what they come to is what the play defines
-    outs_from : (j : ℕ) (ms : List (DrilledMind (MoveMind N M))) (outs : List (Option MoveOut)) → 1 ≤ j → j + length ms ≤ m + 1 →
-        EndsAs (λ (mind : MoveMind N M) (mover : Mover). mind ≡ New mover) (mover_done play (own st m u can seeds) posts) at j ms → AllCome at j ms outs → AreOuts play j outs
-    outs_from j [] [] low high ends come = tt
-    outs_from j [] (out ∷ outs) low high ends come = absurd come
-    outs_from j (d ∷ ds) [] low high ends come = absurd come
-    outs_from j (d ∷ ds) (out ∷ outs) low high ends come =
-        let within : j ≤ m = omega (arith, high) in
-        let marks : at j ≡ new_down play j = at_is j low within in (
-          subst (λ (b : Bool). OutIs b (DefinesOut play j) out) marks
-              (out_weaker (at j) (ComesTo d.inner) (DefinesOut play j) out
-              (λ up o answers.
-              comes_to_play st.now.t play (own st m u can seeds) posts j o (proper_move st m u can seeds masks move_masks) (move_honest st m u can seeds masks move_masks j low within (sym marks ∙ up)) (move_heard st m u can seeds masks move_masks)
-              (subst (λ (mind : MoveMind N M). ComesTo mind o) (ends_here (λ (mind : MoveMind N M) (mover : Mover). mind ≡ New mover) (mover_done play (own st m u can seeds) posts) at j d ds ends up) answers))
-              come.0),
-          outs_from (j + 1) ds outs (omega arith) (omega (arith, high)) (ends_later (λ (mind : MoveMind N M) (mover : Mover). mind ≡ New mover) (mover_done play (own st m u can seeds) posts) at j d ds ends) come.1,
-        )
+      -- what they come to is what the play defines
+      outs_from : (j : ℕ) (ms : List (DrilledMind (MoveMind N M))) (outs : List (Option MoveOut)) → 1 ≤ j → j + length ms ≤ m + 1 →
+          EndsAs (λ (mind : MoveMind N M) (mover : Mover). mind ≡ New mover) (mover_done play (own st m u can seeds) posts) at j ms → AllCome at j ms outs → AreOuts play j outs
+      outs_from j [] [] low high ends come = tt
+      outs_from j [] (out ∷ outs) low high ends come = absurd come
+      outs_from j (d ∷ ds) [] low high ends come = absurd come
+      outs_from j (d ∷ ds) (out ∷ outs) low high ends come =
+          let within : j ≤ m = omega (arith, high) in
+          let marks : at j ≡ new_down play j = at_is j low within in (
+            subst (λ (b : Bool). OutIs b (DefinesOut play j) out) marks
+                (out_weaker (at j) (ComesTo d.inner) (DefinesOut play j) out
+                (λ up o answers.
+                comes_to_play st.now.t play (own st m u can seeds) posts j o (proper_move st m u can seeds cuts masks move_masks few) (move_honest st m u can seeds cuts masks move_masks j low within (sym marks ∙ up)) (move_heard st m u can seeds cuts masks move_masks)
+                (subst (λ (mind : MoveMind N M). ComesTo mind o) (ends_here (λ (mind : MoveMind N M) (mover : Mover). mind ≡ New mover) (mover_done play (own st m u can seeds) posts) at j d ds ends up) answers))
+                come.0),
+            outs_from (j + 1) ds outs (omega arith) (omega (arith, high)) (ends_later (λ (mind : MoveMind N M) (mover : Mover). mind ≡ New mover) (mover_done play (own st m u can seeds) posts) at j d ds ends) come.1,
+          )
 
-    pub outs_are : (outs : List (Option MoveOut)) → AllCome (marked (marks_of (down_new st) m)) 1 receivers outs → AreOuts (play_moved st m u seeds masks) 1 outs
-    outs_are outs come = outs_from 1 receivers outs (omega arith) (omega (arith, length-receivers)) ends_at come
+      pub outs_are : (outs : List (Option MoveOut)) → AllCome (marked (marks_of (new_down (play_moved st m u seeds masks)) m)) 1 receivers outs → AreOuts (play_moved st m u seeds masks) 1 outs
+      outs_are outs come = outs_from 1 receivers outs (omega arith) (omega (arith, length-receivers)) ends_at come
 
 -- there is one for each
 pub length-outs : {N M : ℕ} (down : ℕ → Bool) (j : ℕ) (ms : List (DrilledMind (MoveMind N M))) (outs : List (Option MoveOut)) → AllCome down j ms outs → length outs ≡ length ms
@@ -322,37 +324,50 @@ module _ {N M : ℕ} (st : Standing) (m u : ℕ) (may : MayMove st m u) (seeds :
       (drilled_seated mind_made_for (moving_of st m u) st.orders 1 first_ones
       (all_sit N M (moving_of st m u) 1 (holdings (moving st.orders u) 1 st.files seeds) (map (new_on (moving_of st m u)) (range_with_len 1 m)) (new_sit N M (moving_of st m u) 1 m (1 + length (holdings (moving st.orders u) 1 st.files seeds)) behind)))
 
-  -- the run under the masks, what is left of the minds behind the old members' seats, and the marks of who is down
-  module _ (masks : List ℕ) (ended behind : List (DrilledMind (MoveMind N M))) (marks : List Bool) (long : length masks ≡ rounds s) (allowed : AllAllowed (drilled_ways (mind_ways {N = N} {M = M})) s 1 (all_seats s) nobody masks ms)
-      (ended_is : ended ≡ sync (drilled_ways (mind_ways {N = N} {M = M})) s 1 masks ms) (behind_is : behind ≡ drop st.now.n ended) (marks_are : marks ≡ marks_of (down_new st) m) where
+  -- the masks of the run are those of a move
+  pub phase_masks : (cuts : ℕ → ℕ) (masks : List ℕ) → length masks ≡ rounds s → AllAllowed (drilled_ways (mind_ways {N = N} {M = M})) s 1 (all_seats s) cuts masks ms → AreMoveMasks st m u seeds cuts masks
+  phase_masks cuts masks long allowed =
+      move_masks N M st m u can seeds cuts masks (long ∙ ap rounds s_is)
+      (subst (λ (z : Shape × List (DrilledMind (MoveMind N M))). AllAllowed (drilled_ways (mind_ways {N = N} {M = M})) z.0 1 (all_seats z.0) cuts masks z.1) (λ i. (s_is i, ms_are i)) allowed)
+
+  -- the run under the masks, what is left of the minds behind the old members' seats, and the marks of which of these are down
+  module _ (cuts : ℕ → ℕ) (masks : List ℕ) (ended behind : List (DrilledMind (MoveMind N M))) (marks : List Bool) (long : length masks ≡ rounds s) (allowed : AllAllowed (drilled_ways (mind_ways {N = N} {M = M})) s 1 (all_seats s) cuts masks ms)
+      (ended_is : ended ≡ sync (drilled_ways (mind_ways {N = N} {M = M})) s 1 masks ms) (behind_is : behind ≡ drop st.now.n ended) (marks_are : marks ≡ marks_of (new_down (play_moved st m u seeds masks)) m) where
     all_rounds : length masks ≡ rounds (moving_of st m u)
     all_rounds = long ∙ ap rounds s_is
 
-    all_allowed : AllAllowed (drilled_ways (mind_ways {N = N} {M = M})) (moving_of st m u) 1 (all_seats (moving_of st m u)) nobody masks (drilled_all (moving_of st m u) st.orders first_ones)
-    all_allowed = subst (λ (z : Shape × List (DrilledMind (MoveMind N M))). AllAllowed (drilled_ways (mind_ways {N = N} {M = M})) z.0 1 (all_seats z.0) nobody masks z.1) (λ i. (s_is i, ms_are i)) allowed
+    all_allowed : AllAllowed (drilled_ways (mind_ways {N = N} {M = M})) (moving_of st m u) 1 (all_seats (moving_of st m u)) cuts masks (drilled_all (moving_of st m u) st.orders first_ones)
+    all_allowed = subst (λ (z : Shape × List (DrilledMind (MoveMind N M))). AllAllowed (drilled_ways (mind_ways {N = N} {M = M})) z.0 1 (all_seats z.0) cuts masks z.1) (λ i. (s_is i, ms_are i)) allowed
 
-    new_ones : behind ≡ receivers N M st m u can seeds masks all_rounds all_allowed
+    new_ones : behind ≡ receivers N M st m u can seeds cuts masks all_rounds all_allowed
     new_ones =
         behind_is ∙ ap (drop st.now.n) (ended_is ∙ ap (λ (z : Shape × List (DrilledMind (MoveMind N M))). sync (drilled_ways (mind_ways {N = N} {M = M})) z.0 1 masks z.1) (λ i. (s_is i, ms_are i)))
 
     pub behind_long : length behind ≡ m
-    behind_long = ap length new_ones ∙ length-receivers N M st m u can seeds masks all_rounds all_allowed
+    behind_long = ap length new_ones ∙ length-receivers N M st m u can seeds cuts masks all_rounds all_allowed
 
     pub behind_done : AllDone IsEnd (marked marks) 1 behind
     behind_done =
-        subst (λ (z : List Bool × List (DrilledMind (MoveMind N M))). AllDone IsEnd (marked z.0) 1 z.1) (λ i. (sym marks_are i, sym new_ones i)) (receivers_done N M st m u can seeds masks all_rounds all_allowed)
+        subst (λ (z : List Bool × List (DrilledMind (MoveMind N M))). AllDone IsEnd (marked z.0) 1 z.1) (λ i. (sym marks_are i, sym new_ones i)) (receivers_done N M st m u can seeds cuts masks all_rounds all_allowed)
 
-    -- it leaves what the play defines
-    pub leaves_phase : (moved : Moved) → moved.masks ≡ masks → moved.accepted ≡ accepted_first accepted_at (marked marks) 1 behind → AllCome (marked marks) 1 behind moved.outs.items → IsMovePhase st m u seeds moved
-    leaves_phase moved e counted come =
-        let here = subst (λ (z : List Bool × List (DrilledMind (MoveMind N M))). AllCome (marked z.0) 1 z.1 moved.outs.items) (λ i. (marks_are i, new_ones i)) come in
-        record {
-          masks = subst (AreMoveMasks st m u seeds) (sym e) (move_masks N M st m u can seeds masks all_rounds all_allowed);
-          accepted = counted ∙ ap (λ (z : List Bool × List (DrilledMind (MoveMind N M))). accepted_first accepted_at (marked z.0) 1 z.1) (λ i. (marks_are i, new_ones i))
-              ∙ receivers_accepted N M st m u can seeds masks all_rounds all_allowed ∙ ap (λ (xs : List ℕ). accepted_count (play_moved st m u seeds xs)) (sym e);
-          all = length-outs (marked (marks_of (down_new st) m)) 1 (receivers N M st m u can seeds masks all_rounds all_allowed) moved.outs.items here ∙ length-receivers N M st m u can seeds masks all_rounds all_allowed;
-          outs = subst (λ (xs : List ℕ). AreOuts (play_moved st m u seeds xs) 1 moved.outs.items) (sym e) (outs_are N M st m u can seeds masks all_rounds all_allowed moved.outs.items here);
-        }
+    -- with enough members left it leaves what the play defines
+    module _ (left : ℕ) (enough : enough_moved st m u (play_moved st m u seeds masks) ≡ Ok left) where
+      few : how_many m (new_down (play_moved st m u seeds masks)) ≤ u
+      few = (both_left st m u left (play_moved st m u seeds masks) (omega (arith, can.old.third, can.old.some_bad)) (omega (arith, can.new.third, can.new.some_bad)) enough).1
+
+      pub leaves_phase : (moved : Moved) → moved.masks ≡ masks → moved.down.items ≡ marks → moved.accepted ≡ accepted_first accepted_at (marked marks) 1 behind → AllCome (marked marks) 1 behind moved.outs.items → IsMovePhase st m u seeds cuts moved
+      leaves_phase moved e same counted come =
+          let here = subst (λ (z : List Bool × List (DrilledMind (MoveMind N M))). AllCome (marked z.0) 1 z.1 moved.outs.items) (λ i. (marks_are i, new_ones i)) come in
+          record {
+            masks = subst (AreMoveMasks st m u seeds cuts) (sym e) (phase_masks cuts masks long allowed);
+            left = left;
+            enough = subst (λ (xs : List ℕ). enough_moved st m u (play_moved st m u seeds xs) ≡ Ok left) (sym e) enough;
+            down = same ∙ marks_are ∙ ap (λ (xs : List ℕ). marks_of (new_down (play_moved st m u seeds xs)) m) (sym e);
+            accepted = counted ∙ ap (λ (z : List Bool × List (DrilledMind (MoveMind N M))). accepted_first accepted_at (marked z.0) 1 z.1) (λ i. (marks_are i, new_ones i))
+                ∙ receivers_accepted N M st m u can seeds cuts masks all_rounds all_allowed few ∙ ap (λ (xs : List ℕ). accepted_count (play_moved st m u seeds xs)) (sym e);
+            all = length-outs (marked (marks_of (new_down (play_moved st m u seeds masks)) m)) 1 (receivers N M st m u can seeds cuts masks all_rounds all_allowed) moved.outs.items here ∙ length-receivers N M st m u can seeds cuts masks all_rounds all_allowed;
+            outs = subst (λ (xs : List ℕ). AreOuts (play_moved st m u seeds xs) 1 moved.outs.items) (sym e) (outs_are N M st m u can seeds cuts masks all_rounds all_allowed few moved.outs.items here);
+          }
 
 -- the run has a mind for each seat
 pub ended_long : {N M : ℕ} (s : Shape) (masks : List ℕ) (ms ended : List (DrilledMind (MoveMind N M))) → length ms ≡ seats s → ended ≡ sync (drilled_ways (mind_ways {N = N} {M = M})) s 1 masks ms → length ended ≡ seats s

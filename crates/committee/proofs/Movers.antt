@@ -12,16 +12,15 @@ use Rattle.sizes.specs.Committees.{IsCommittee}
 use Rattle.talk.specs.declared.part.Part.{Part}
 use Rattle.talk.specs.Part.{part_ways, part_is}
 use Rattle.talk.specs.Shape.{Shape, Lawful, TwoCommittees, rounds, move_shape}
-use Rattle.talk.specs.Sync.{nobody, sync}
+use Rattle.talk.specs.Sync.{sync}
 use Rattle.talk.specs.Basics.{Nth}
 use Rattle.plays.specs.Law.{HonestIn}
 use Rattle.plays.specs.Transcript.{Transcript, posts_in, transcript_of}
 use Rattle.machines.specs.Machines.{InMasks}
-use Rattle.machines.proofs.Runs.{nobody_cut}
 use Rattle.periods.specs.Move.{IsMove}
 use Rattle.periods.specs.Mover.{Mover, mover_at, mover_ways, mover_turn}
 use Rattle.periods.specs.Runs.{ByMovers, BeginMove, mover_done}
-use Rattle.periods.proofs.Runs.{movers_go, moves_in_masks, by_movers, ends_moved}
+use Rattle.periods.proofs.Runs.{movers_go, by_movers, ends_moved}
 use Rattle.periods.proofs.Sixth.{moves_are_proper, syndromes_are_heard}
 use Rattle.moveshare.specs.Laws.{AreHeardIn}
 use Rattle.drillbook.specs.Orders.{names}
@@ -33,15 +32,18 @@ use Rattle.keyroom.specs.Sound.{is_valid}
 use Rattle.keyroom.specs.Steps.{share_of}
 use Rattle.keyroom.specs.Words.{Move, IsInRange}
 use Rattle.keyroom.proofs.Reading.{now_checked}
-use Rattle.keyroom.proofs.Counting.{old_seat, new_seat, new_down as new_named}
+use Rattle.keyroom.proofs.Counting.{old_seat, new_seat}
 use Rattle.committee.specs.Kept.{ReadsNow}
+use Rattle.committee.specs.Late.{down_after}
 use Rattle.committee.specs.Phase.{IsReady}
 use Rattle.committee.specs.Move.{move_asked, moving_of, down_moving, dealt_shares, moving, new_member, seats_in, mover_on, movers_on, AreMoveMasks, play_moved, new_down}
-use Rattle.committee.specs.MovePhase.{MayMove, down_new}
+use Rattle.committee.specs.MovePhase.{MayMove}
 use Rattle.committee.specs.Run.{drilled_on, drilled_all}
 use Rattle.committee.specs.Standing.{Standing, Holding, holdings, holding_or_none, held_on}
 use Rattle.committee.proofs.Committees.{committee_of}
 use Rattle.committee.proofs.Drills.{few_drill}
+use Rattle.committee.proofs.Late.{after_up}
+use Rattle.committee.proofs.Left.{in_masks_after}
 use Rattle.committee.proofs.GoingOn.{asked_stands, read_ready}
 use Rattle.committee.proofs.Holdings.{length-holdings, each_holding, Takes, takes_part, up_is}
 use Rattle.committee.proofs.Phases.{length-numbered, nth_numbered, drilled_nth, none_degree, each_degree, drilled_is, undrilled_go}
@@ -60,12 +62,6 @@ can_move st m u may = record {
   all = may.ready.all;
   few = may.few;
 }
-
--- not more new members are down than may be faulty
-pub few_new : (st : Standing) (m u : ℕ) → MayMove st m u → how_many m (down_new st) ≤ u
-few_new st m u may =
-    let few : how_many m (λ j. names st.orders (length st.files + j)) ≤ u = subst (λ (n : ℕ). how_many m (λ j. names st.orders (n + j)) ≤ u) (sym may.ready.all) may.few in
-    omega (arith, new_named (names st.orders) st.files (length st.files) m refl, few)
 
 -- ---- the setting
 pub two_committees : (n t m u : ℕ) → IsCommittee n t → TwoCommittees (move_shape n t m u) t
@@ -151,7 +147,15 @@ module _ (st : Standing) (m u : ℕ) (can : CanMove st m u) (seeds : List (List 
   abbrev minds : List (Part Mover)
   minds = movers_on (moving_of st m u) (seats_in st m u seeds)
 
-  module _ (masks : List ℕ) (allowed : AreMoveMasks st m u seeds masks) where
+  module _ (cuts : ℕ → ℕ) (masks : List ℕ) (allowed : AreMoveMasks st m u seeds cuts masks) where
+    -- who is down in the play
+    abbrev down : ℕ → Bool
+    down = down_after (down_moving st) masks
+
+    -- who isn't down in it wasn't before
+    up_before : (seat : ℕ) → down_after (down_moving st) masks seat ≡ false → down_moving st seat ≡ false
+    up_before seat up = (after_up (down_moving st) masks seat up).0
+
     abbrev run : Transcript
     run = transcript_of (drilled_ways (part_ways mover_ways)) shape masks (drilled_all shape st.orders minds)
 
@@ -159,7 +163,7 @@ module _ (st : Standing) (m u : ℕ) (can : CanMove st m u) (seeds : List (List 
     long = allowed.0 ∙ six_rounds st.now.n st.now.t m u can.old
 
     begins : BeginMove (drilled_ways (part_ways mover_ways)) (drilled_is (part_is (λ (a b : Mover). a ≡ b))) (moving_of st m u) masks
-        (drilled_all (moving_of st m u) st.orders (movers_on (moving_of st m u) (seats_in st m u seeds))) (down_moving st) (λ seat. (held_on (seats_in st m u seeds) seat).grids)
+        (drilled_all (moving_of st m u) st.orders (movers_on (moving_of st m u) (seats_in st m u seeds))) (down_after (down_moving st) masks) (λ seat. (held_on (seats_in st m u seeds) seat).grids)
     begins = record {
       goes = undrilled_go (part_ways mover_ways) mover_ways (part_is (λ (a b : Mover). a ≡ b)) mover_turn movers_go;
       setting = lawful_move st.now.n st.now.t m u can.old can.new;
@@ -168,34 +172,29 @@ module _ (st : Standing) (m u : ℕ) (can : CanMove st m u) (seeds : List (List 
       degrees = λ seat lane up. degree_cases (seat - 1) lane (cases_lt (seat - 1) st.now.n);
       fresh = λ seat honest.
           let e : 1 + (seat - 1) ≡ seat = omega (arith, honest.from) in
-          let part = part_cases seat honest.from honest.to (cases_lt st.now.n seat) honest.up in
+          let part = part_cases seat honest.from honest.to (cases_lt st.now.n seat) (up_before seat honest.up) in
           let here : Part Mover = mover_on shape (1 + (seat - 1)) (get_or (seats_in st m u seeds) (seat - 1) None) in
           let place : Nth (seat - 1) here minds = nth_numbered (mover_on shape) None 1 (seat - 1) (seats_in st m u seeds) (omega (arith, honest.from, honest.to, length-seats)) in (
             drilled_on shape st.orders (1 + (seat - 1)) here,
             drilled_nth shape st.orders minds 1 (seat - 1) here place,
             (
-              ap (names st.orders) e ∙ unnamed_cases seat (cases_lt st.now.n seat) honest.up,
+              ap (names st.orders) e ∙ unnamed_cases seat (cases_lt st.now.n seat) (up_before seat honest.up),
               subst (λ (h : Option Holding). part_is (λ (a b : Mover). a ≡ b) (mover_on shape (1 + (seat - 1)) h) (mover_at shape seat (holding_or_none h).grids)) (sym part.1)
                   (ap (λ (k : ℕ). mover_at shape k part.0.grids) e),
             ),
           );
     }
 
-    -- who isn't down is in each mask, since nobody is cut
-    here : InMasks (moving_of st m u) 6 masks (down_moving st)
-    here = moves_in_masks (drilled_ways (part_ways mover_ways)) (drilled_is (part_is (λ (a b : Mover). a ≡ b))) shape masks (drilled_all shape st.orders minds) (down_moving st) own begins
-        nobody allowed.1 (nobody_cut shape 6 (down_moving st))
+    -- who isn't down is in each mask
+    here : InMasks (moving_of st m u) 6 masks (down_after (down_moving st) masks)
+    here = in_masks_after shape 6 masks (down_moving st) (omega (arith, long))
 
-    by : ByMovers (transcript_of (drilled_ways (part_ways mover_ways)) (moving_of st m u) masks (drilled_all (moving_of st m u) st.orders (movers_on (moving_of st m u) (seats_in st m u seeds)))) (down_moving st) (λ seat. (held_on (seats_in st m u seeds) seat).grids)
-    by = by_movers (drilled_ways (part_ways mover_ways)) (drilled_is (part_is (λ (a b : Mover). a ≡ b))) shape masks (drilled_all shape st.orders minds) (down_moving st) own begins here
+    by : ByMovers (transcript_of (drilled_ways (part_ways mover_ways)) (moving_of st m u) masks (drilled_all (moving_of st m u) st.orders (movers_on (moving_of st m u) (seats_in st m u seeds)))) (down_after (down_moving st) masks) (λ seat. (held_on (seats_in st m u seeds) seat).grids)
+    by = by_movers (drilled_ways (part_ways mover_ways)) (drilled_is (part_is (λ (a b : Mover). a ≡ b))) shape masks (drilled_all shape st.orders minds) (down_after (down_moving st) masks) own begins here
 
-    -- not more new members are down than may be faulty
-    pub new_few : how_many m (new_down (play_moved st m u seeds masks)) ≤ u
-    new_few = omega (arith, new_named (names st.orders) st.files st.now.n m can.all, can.few)
-
-    -- the play is a move
-    pub proper_move : IsMove st.now.t (play_moved st m u seeds masks)
-    proper_move = moves_are_proper st.now.t run (down_moving st) own by (two_committees st.now.n st.now.t m u can.old) new_few
+    -- with enough of the new members left the play is a move
+    pub proper_move : how_many m (new_down (play_moved st m u seeds masks)) ≤ u → IsMove st.now.t (play_moved st m u seeds masks)
+    proper_move few = moves_are_proper st.now.t run down own by (two_committees st.now.n st.now.t m u can.old) few
 
     -- a new member that isn't down is honest in it
     pub move_honest : (j : ℕ) → 1 ≤ j → j ≤ m → new_down (play_moved st m u seeds masks) j ≡ false → HonestIn (play_moved st m u seeds masks) j
@@ -203,14 +202,14 @@ module _ (st : Standing) (m u : ℕ) (can : CanMove st m u) (seeds : List (List 
 
     -- what is heard in the sixth round is the play's
     pub move_heard : AreHeardIn (play_moved st m u seeds masks) (posts_in (transcript_of (drilled_ways (part_ways mover_ways)) (moving_of st m u) masks (drilled_all (moving_of st m u) st.orders (movers_on (moving_of st m u) (seats_in st m u seeds)))) 6)
-    move_heard receiver from to = syndromes_are_heard run (down_moving st) own by receiver from to
+    move_heard receiver from to = syndromes_are_heard run (down_after (down_moving st) masks) own by receiver from to
 
     -- the seat of a new member that isn't down ends as the play defines
     pub move_ends : (j : ℕ) → HonestIn (play_moved st m u seeds masks) j →
         (d : DrilledMind (Part Mover)) × Nth (st.now.n + j - 1) d (sync (drilled_ways (part_ways mover_ways)) (moving_of st m u) 1 masks (drilled_all (moving_of st m u) st.orders (movers_on (moving_of st m u) (seats_in st m u seeds))))
         × part_is (λ (a b : Mover). a ≡ b) d.inner (mover_done (play_moved st m u seeds masks) own (posts_in (transcript_of (drilled_ways (part_ways mover_ways)) (moving_of st m u) masks (drilled_all (moving_of st m u) st.orders (movers_on (moving_of st m u) (seats_in st m u seeds)))) 6) j)
     move_ends j honest =
-        let end = ends_moved (drilled_ways (part_ways mover_ways)) (drilled_is (part_is (λ (a b : Mover). a ≡ b))) shape masks (drilled_all shape st.orders minds) (down_moving st) own begins here j honest in
+        let end = ends_moved (drilled_ways (part_ways mover_ways)) (drilled_is (part_is (λ (a b : Mover). a ≡ b))) shape masks (drilled_all shape st.orders minds) (down_after (down_moving st) masks) own begins here j honest in
         let six : take 6 masks ≡ masks = take_all 6 masks (omega (arith, long)) in (
           end.0,
           subst (λ (ms : List ℕ). Nth (st.now.n + j - 1) end.0 (sync (drilled_ways (part_ways mover_ways)) shape 1 ms (drilled_all shape st.orders minds))) six end.1,

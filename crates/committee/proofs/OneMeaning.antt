@@ -1,5 +1,5 @@
 -- What the words and the outside mean is one outcome.
-use Rattle.std.proofs.Common.{◌≡◌, ◌⊎◌, inl, inr, ℕ, List, [], length, take, Option, Some, None, IsSome, Result, Ok, Err, refl, sym, ap, ◌∙◌, subst}
+use Rattle.std.proofs.Common.{◌≡◌, ◌⊎◌, inl, inr, ℕ, List, [], length, take, Option, Some, None, IsSome, Result, Ok, Err, refl, sym, ap, ◌∙◌, subst, arith}
 use Rattle.std.proofs.lemmas.List.{take_at}
 use Rattle.algebra61.specs.Field.{Fp}
 use Rattle.algebra61.specs.Polynomial.{Polynomial}
@@ -27,15 +27,14 @@ use Rattle.keyroom.proofs.Spelling.{same_command}
 use Rattle.keyroom.proofs.Honest.{one_key, honest_end}
 use Rattle.keyroom.proofs.Checking.{one_check, honest_states}
 use Rattle.keyroom.proofs.Working.{one_work, honest_work}
-use Rattle.drillbook.specs.Orders.{names}
-use Rattle.committee.specs.Links.{first_link, first_now}
-use Rattle.committee.specs.Create.{Creates, create_asked, create_outcome, play_created}
+use Rattle.committee.specs.Create.{Creates, create_asked, create_end, play_created}
 use Rattle.committee.specs.Standing.{Standing, seeds_for}
-use Rattle.committee.specs.Refresh.{Refreshes, refresh_asked, refresh_outcome, play_refreshed}
-use Rattle.committee.specs.Move.{move_asked, play_moved, move_outcome, EndsMove, Moves}
-use Rattle.committee.specs.Answer.{refused_after}
-use Rattle.committee.specs.Meaning.{Given, of_phase, MeansCommand, MeansSome, MeansUnder, Means, ComeToMove}
+use Rattle.committee.specs.Refresh.{Refreshes, refresh_asked, refresh_end, play_refreshed}
+use Rattle.committee.specs.Move.{move_asked, play_moved, move_outcome, enough_moved, EndsOpened, ThenAfter, EndsMove, Moves}
+use Rattle.committee.specs.Late.{refused_after}
+use Rattle.committee.specs.Meaning.{Given, of_phase, MeansCommand, MeansSome, MeansUnder, Means, TakesSeeds, ComeToPhase}
 use Rattle.committee.specs.Recovery.{document_command}
+use Rattle.committee.proofs.Left.{both_left}
 use Rattle.committee.proofs.Movers.{CanMove, proper_move, can_asked}
 use Rattle.committee.proofs.Outs.{one_errors}
 
@@ -53,70 +52,74 @@ one_seeds : (coming : Option (List (List ℕ))) (a b : List (List ℕ)) → IsSo
 one_seeds None a b told same p q = absurd cc
 one_seeds (Some coming) a b told same p q = sym (take_at a p.0 (length a) refl) ∙ ap (take (length a)) (sym p.1 ∙ q.1) ∙ take_at b q.0 (length a) (sym same)
 
-one_created : (name : List ℕ) (n t : ℕ) (asked : Result (List Order) Status) (coming : Option (List (List ℕ))) (masks : List ℕ) (a b : Outcome) → IsSome coming →
-    ThenDo asked (Creates name n t coming masks) a → ThenDo asked (Creates name n t coming masks) b → a ≡ b
-one_created name n t (Ok orders) coming masks a b told p q =
-    p.4 ∙ ap (λ seeds. create_outcome (first_now name n t (first_link name n t (names orders))) masks (play_created n t orders seeds masks)) (one_seeds coming p.0 q.0 told (p.1 ∙ sym q.1) p.2 q.2) ∙ sym q.4
-one_created name n t (Err status) coming masks a b told p q = p ∙ sym q
+one_created : (name : List ℕ) (n t : ℕ) (asked : Result (List Order) Status) (coming : Option (List (List ℕ))) (cuts : ℕ → ℕ) (masks : List ℕ) (a b : Outcome) → IsSome coming →
+    ThenDo asked (Creates name n t coming cuts masks) a → ThenDo asked (Creates name n t coming cuts masks) b → a ≡ b
+one_created name n t (Ok orders) coming cuts masks a b told p q =
+    p.4 ∙ ap (λ seeds. create_end name n t masks (play_created n t orders seeds masks)) (one_seeds coming p.0 q.0 told (p.1 ∙ sym q.1) p.2 q.2) ∙ sym q.4
+one_created name n t (Err status) coming cuts masks a b told p q = p ∙ sym q
 
-one_create_status : (name : List ℕ) (n t : ℕ) (asked : Result (List Order) Status) (coming : Option (List (List ℕ))) (masks other : List ℕ) (a b : Outcome) →
-    ThenDo asked (Creates name n t coming masks) a → ThenDo asked (Creates name n t coming other) b → a.status ≡ b.status
-one_create_status name n t (Ok orders) coming masks other a b p q = ap (λ (o : Outcome). o.status) p.4 ∙ sym (ap (λ (o : Outcome). o.status) q.4)
-one_create_status name n t (Err status) coming masks other a b p q = ap (λ (o : Outcome). o.status) (p ∙ sym q)
-
-one_refreshed : (asked : Result Standing Status) (coming : Option (List (List ℕ))) (masks : List ℕ) (a b : Outcome) → IsSome coming →
-    ThenDo asked (Refreshes coming masks) a → ThenDo asked (Refreshes coming masks) b → a ≡ b
-one_refreshed (Ok st) coming masks a b told p q =
-    p.4 ∙ ap (λ seeds. refresh_outcome st seeds masks (play_refreshed st seeds masks)) (one_seeds coming p.0 q.0 told (p.1 ∙ sym q.1) p.2 q.2) ∙ sym q.4
-one_refreshed (Err status) coming masks a b told p q = p ∙ sym q
-
-one_refresh_status : (asked : Result Standing Status) (coming : Option (List (List ℕ))) (masks other : List ℕ) (a b : Outcome) →
-    ThenDo asked (Refreshes coming masks) a → ThenDo asked (Refreshes coming other) b → a.status ≡ b.status
-one_refresh_status (Ok st) coming masks other a b p q = ap (λ (o : Outcome). o.status) p.4 ∙ sym (ap (λ (o : Outcome). o.status) q.4)
-one_refresh_status (Err status) coming masks other a b p q = ap (λ (o : Outcome). o.status) (p ∙ sym q)
+one_refreshed : (asked : Result Standing Status) (coming : Option (List (List ℕ))) (cuts : ℕ → ℕ) (masks : List ℕ) (a b : Outcome) → IsSome coming →
+    ThenDo asked (Refreshes coming cuts masks) a → ThenDo asked (Refreshes coming cuts masks) b → a ≡ b
+one_refreshed (Ok st) coming cuts masks a b told p q =
+    p.4 ∙ ap (λ seeds. refresh_end st seeds masks (play_refreshed st seeds masks)) (one_seeds coming p.0 q.0 told (p.1 ∙ sym q.1) p.2 q.2) ∙ sym q.4
+one_refreshed (Err status) coming cuts masks a b told p q = p ∙ sym q
 
 -- under the same masks a play of a move has one end
 one_refusal : (taken : ℕ) (lane other : ℕ) (syndrome list : List Fp) → lane ≡ other → syndrome ≡ list → refused_after taken (NoWord lane syndrome) ≡ refused_after taken (NoWord other list)
 one_refusal taken lane other syndrome list e f = rw (e, f) refl
 
-one_ended : (st : Standing) (m u : ℕ) (masks : List ℕ) (p : Play) (a b : Outcome) → IsMove st.now.t p → EndsMove st m u masks p a → EndsMove st m u masks p b → a ≡ b
-one_ended st m u masks p a b move (inl (errors, have, e)) (inl (others, too, f)) = e ∙ ap (move_outcome st m u masks p) (one_errors st.now.t p errors others move have too) ∙ sym f
-one_ended st m u masks p a b move (inl (errors, have, e)) (inr (lane, syndrome, none, f)) = absurd (result_or_none st.now.t p errors lane syndrome move have none)
-one_ended st m u masks p a b move (inr (lane, syndrome, none, e)) (inl (errors, have, f)) = absurd (result_or_none st.now.t p errors lane syndrome move have none)
-one_ended st m u masks p a b move (inr (lane, syndrome, none, e)) (inr (other, list, too, f)) =
+one_opened : (st : Standing) (m u : ℕ) (masks : List ℕ) (p : Play) (a b : Outcome) → IsMove st.now.t p → EndsOpened st m u masks p a → EndsOpened st m u masks p b → a ≡ b
+one_opened st m u masks p a b move (inl (errors, have, e)) (inl (others, too, f)) = e ∙ ap (move_outcome st m u masks p) (one_errors st.now.t p errors others move have too) ∙ sym f
+one_opened st m u masks p a b move (inl (errors, have, e)) (inr (lane, syndrome, none, f)) = absurd (result_or_none st.now.t p errors lane syndrome move have none)
+one_opened st m u masks p a b move (inr (lane, syndrome, none, e)) (inl (errors, have, f)) = absurd (result_or_none st.now.t p errors lane syndrome move have none)
+one_opened st m u masks p a b move (inr (lane, syndrome, none, e)) (inr (other, list, too, f)) =
     let one = one_without_result st.now.t p lane other syndrome list move none too in
     e ∙ one_refusal (seeds_for st) lane other syndrome list one.0 one.1 ∙ sym f
 
+one_ended : (st : Standing) (m u : ℕ) (masks : List ℕ) (p : Play) (a b : Outcome) (r : Result ℕ Status) → ((k : ℕ) → r ≡ Ok k → IsMove st.now.t p) →
+    ThenAfter (seeds_for st) r (λ left. EndsOpened st m u masks p) a → ThenAfter (seeds_for st) r (λ left. EndsOpened st m u masks p) b → a ≡ b
+one_ended st m u masks p a b (Ok k) move x y = one_opened st m u masks p a b (move k refl) x y
+one_ended st m u masks p a b (Err status) move x y = x ∙ sym y
+
 one_moved : (name : List ℕ) (m u : ℕ) (drill : Option (List ℕ)) (held : Held) (asked : Result Standing Status) → move_asked name m u drill held ≡ asked → IsInRange (Move name m u drill) →
-    (coming : Option (List (List ℕ))) (masks : List ℕ) (a b : Outcome) → IsSome coming → ThenDo asked (Moves m u coming masks) a → ThenDo asked (Moves m u coming masks) b → a ≡ b
-one_moved name m u drill held (Ok st) is range coming masks a b told p q =
+    (coming : Option (List (List ℕ))) (cuts : ℕ → ℕ) (masks : List ℕ) (a b : Outcome) → IsSome coming → ThenDo asked (Moves m u coming cuts masks) a → ThenDo asked (Moves m u coming cuts masks) b → a ≡ b
+one_moved name m u drill held (Ok st) is range coming cuts masks a b told p q =
     let can : CanMove st m u = can_asked name m u drill held st range is in
     let ended = subst (λ (seeds : List (List ℕ)). EndsMove st m u masks (play_moved st m u seeds masks) b) (sym (one_seeds coming p.0 q.0 told (p.1 ∙ sym q.1) p.2 q.2)) q.4 in
-    one_ended st m u masks (play_moved st m u p.0 masks) a b (proper_move st m u can p.0 masks p.3) p.4 ended
-one_moved name m u drill held (Err status) is range coming masks a b told p q = p ∙ sym q
+    let play : Play = play_moved st m u p.0 masks in
+    one_ended st m u masks play a b (enough_moved st m u play)
+    (λ k enough. proper_move st m u can p.0 cuts masks p.3 (both_left st m u k play (omega (arith, can.old.third, can.old.some_bad)) (omega (arith, can.new.third, can.new.some_bad)) enough).1) p.4 ended
+one_moved name m u drill held (Err status) is range coming cuts masks a b told p q = p ∙ sym q
 
 one_outcome : (command : Command) (given : Given) (masks : List (List ℕ)) (a b : Outcome) → IsInRange command → IsSome given.coming → MeansCommand command given masks a → MeansCommand command given masks b → a ≡ b
-one_outcome (Create name n t drill) given masks a b range told p q = one_created name n t (create_asked name (create_shape n t) drill given.held) given.coming (of_phase masks 0) a b told p q
-one_outcome (Refresh name drill) given masks a b range told p q = one_refreshed (refresh_asked name drill given.held) given.coming (of_phase masks 0) a b told p q
-one_outcome (Move name m u drill) given masks a b range told p q = one_moved name m u drill given.held (move_asked name m u drill given.held) refl range given.coming (of_phase masks 0) a b told p q
+one_outcome (Create name n t drill) given masks a b range told p q = one_created name n t (create_asked name (create_shape n t) drill given.held) given.coming given.cuts (of_phase masks 0) a b told p q
+one_outcome (Refresh name drill) given masks a b range told p q = one_refreshed (refresh_asked name drill given.held) given.coming given.cuts (of_phase masks 0) a b told p q
+one_outcome (Move name m u drill) given masks a b range told p q = one_moved name m u drill given.held (move_asked name m u drill given.held) refl range given.coming given.cuts (of_phase masks 0) a b told p q
 one_outcome (Recover name) given masks a b range told p q = one_recover name given.held a b p q
 one_outcome (Check name) given masks a b range told p q = one_checked name given.held a b p q
 one_outcome (Seal name doc target) given masks a b range told p q = one_document Sealing name doc target given.held a b p q
 one_outcome (Open name source target) given masks a b range told p q = one_document Opening name source target given.held a b p q
 
--- of one status, unless a move came to its phase
+-- of one status, unless the command comes to its phase
 abbrev OneStatus : Command → Held → Outcome → Outcome → Type 0
-OneStatus command held a b = (a.status ≡ b.status) ⊎ ((name : List ℕ) × (m : ℕ) × (u : ℕ) × (drill : Option (List ℕ)) × (command ≡ Move name m u drill) × ((st : Standing) × (move_asked name m u drill held ≡ Ok st)))
+OneStatus command held a b = (a.status ≡ b.status) ⊎ ((count : ℕ) × TakesSeeds command held count)
 
-one_move_status : (name : List ℕ) (m u : ℕ) (drill : Option (List ℕ)) (held : Held) (asked : Result Standing Status) → move_asked name m u drill held ≡ asked → (coming : Option (List (List ℕ))) (masks other : List ℕ) (a b : Outcome) →
-    ThenDo asked (Moves m u coming masks) a → ThenDo asked (Moves m u coming other) b → OneStatus (Move name m u drill) held a b
-one_move_status name m u drill held (Ok st) is coming masks other a b p q = inr (name, m, u, drill, refl, (st, is))
-one_move_status name m u drill held (Err status) is coming masks other a b p q = inl (ap (λ (o : Outcome). o.status) (p ∙ sym q))
+-- its steps give a value, or refuse both times alike
+one_of_steps : {A : Type 0} (command : Command) (held : Held) (asked : Result A Status) (count : A → ℕ) → ((x : A) → asked ≡ Ok x → TakesSeeds command held (count x)) → (first second : A → Outcome → Type 0) (a b : Outcome) →
+    ThenDo asked first a → ThenDo asked second b → OneStatus command held a b
+one_of_steps command held (Ok x) count takes first second a b p q = inr (count x, takes x refl)
+one_of_steps command held (Err status) count takes first second a b p q = inl (ap (λ (o : Outcome). o.status) (p ∙ sym q))
 
 one_end : (command : Command) (given : Given) (masks other : List (List ℕ)) (a b : Outcome) → MeansCommand command given masks a → MeansCommand command given other b → OneStatus command given.held a b
-one_end (Create name n t drill) given masks other a b p q = inl (one_create_status name n t (create_asked name (create_shape n t) drill given.held) given.coming (of_phase masks 0) (of_phase other 0) a b p q)
-one_end (Refresh name drill) given masks other a b p q = inl (one_refresh_status (refresh_asked name drill given.held) given.coming (of_phase masks 0) (of_phase other 0) a b p q)
-one_end (Move name m u drill) given masks other a b p q = one_move_status name m u drill given.held (move_asked name m u drill given.held) refl given.coming (of_phase masks 0) (of_phase other 0) a b p q
+one_end (Create name n t drill) given masks other a b p q =
+    one_of_steps (Create name n t drill) given.held (create_asked name (create_shape n t) drill given.held) (λ orders. n) (λ orders e. (refl, (orders, e)))
+    (Creates name n t given.coming given.cuts (of_phase masks 0)) (Creates name n t given.coming given.cuts (of_phase other 0)) a b p q
+one_end (Refresh name drill) given masks other a b p q =
+    one_of_steps (Refresh name drill) given.held (refresh_asked name drill given.held) seeds_for (λ st e. (st, e, refl))
+    (Refreshes given.coming given.cuts (of_phase masks 0)) (Refreshes given.coming given.cuts (of_phase other 0)) a b p q
+one_end (Move name m u drill) given masks other a b p q =
+    one_of_steps (Move name m u drill) given.held (move_asked name m u drill given.held) seeds_for (λ st e. (st, e, refl))
+    (Moves m u given.coming given.cuts (of_phase masks 0)) (Moves m u given.coming given.cuts (of_phase other 0)) a b p q
 one_end (Recover name) given masks other a b p q = inl (ap (λ (o : Outcome). o.status) (one_recover name given.held a b p q))
 one_end (Check name) given masks other a b p q = inl (ap (λ (o : Outcome). o.status) (one_checked name given.held a b p q))
 one_end (Seal name doc target) given masks other a b p q = inl (ap (λ (o : Outcome). o.status) (one_document Sealing name doc target given.held a b p q))
@@ -129,19 +132,30 @@ one_meaning words given masks a b told (inr (command, reads, means)) (inl (none,
 one_meaning words given masks a b told (inr (command, reads, means)) (inr (other, again, meant)) =
     one_outcome other given masks a b again.in_range told (subst (λ c. MeansCommand c given masks a) (same_command words command other reads again) means) meant
 
-came_to_move : (words : List (List ℕ)) (command : Command) (held : Held) (a b : Outcome) → ReadsAs words command → OneStatus command held a b → (a.status ≡ b.status) ⊎ ComeToMove words held
-came_to_move words command held a b reads (inl same) = inl same
-came_to_move words command held a b reads (inr (name, m, u, drill, is, asked)) = inr (name, m, u, drill, subst (ReadsAs words) is reads, asked)
+-- one command was meant twice, which comes to its phase
+abbrev pub MeantTwice : List (List ℕ) → Given → List (List ℕ) → List (List ℕ) → Outcome → Outcome → Type 0
+MeantTwice words given masks others a b =
+    (command : Command) × ReadsAs words command × MeansCommand command given masks a × MeansCommand command given others b × ((count : ℕ) × TakesSeeds command given.held count)
 
-status_under : (words : List (List ℕ)) (given : Given) (masks others : List (List ℕ)) (a b : Outcome) → MeansUnder masks words given a → MeansUnder others words given b → (a.status ≡ b.status) ⊎ ComeToMove words given.held
-status_under words given masks others a b (inl (none, e)) (inl (on, f)) = inl (ap (λ (o : Outcome). o.status) (e ∙ sym f))
-status_under words given masks others a b (inl (none, e)) (inr (command, reads, means)) = absurd (none command reads)
-status_under words given masks others a b (inr (command, reads, means)) (inl (none, f)) = absurd (none command reads)
-status_under words given masks others a b (inr (command, reads, means)) (inr (other, again, meant)) =
-    came_to_move words other given.held a b again (one_end other given masks others a b (subst (λ c. MeansCommand c given masks a) (same_command words command other reads again) means) meant)
+meant_twice : (words : List (List ℕ)) (command : Command) (given : Given) (masks others : List (List ℕ)) (a b : Outcome) → ReadsAs words command → MeansCommand command given masks a → MeansCommand command given others b →
+    OneStatus command given.held a b → (a.status ≡ b.status) ⊎ MeantTwice words given masks others a b
+meant_twice words command given masks others a b reads p q (inl same) = inl same
+meant_twice words command given masks others a b reads p q (inr takes) = inr (command, reads, p, q, takes)
 
-pub one_status : (words : List (List ℕ)) (given : Given) (a b : Outcome) → Means words given a → Means words given b → (a.status ≡ b.status) ⊎ ComeToMove words given.held
-one_status words given a b p q = status_under words given p.0 q.0 a b p.1 q.1
+pub one_under : (words : List (List ℕ)) (given : Given) (masks others : List (List ℕ)) (a b : Outcome) → MeansUnder masks words given a → MeansUnder others words given b → (a.status ≡ b.status) ⊎ MeantTwice words given masks others a b
+one_under words given masks others a b (inl (none, e)) (inl (on, f)) = inl (ap (λ (o : Outcome). o.status) (e ∙ sym f))
+one_under words given masks others a b (inl (none, e)) (inr (command, reads, means)) = absurd (none command reads)
+one_under words given masks others a b (inr (command, reads, means)) (inl (none, f)) = absurd (none command reads)
+one_under words given masks others a b (inr (command, reads, means)) (inr (other, again, meant)) =
+    let first = subst (λ c. MeansCommand c given masks a) (same_command words command other reads again) means in
+    meant_twice words other given masks others a b again first meant (one_end other given masks others a b first meant)
+
+came_to_phase : (words : List (List ℕ)) (given : Given) (masks others : List (List ℕ)) (a b : Outcome) → (a.status ≡ b.status) ⊎ MeantTwice words given masks others a b → (a.status ≡ b.status) ⊎ ComeToPhase words given.held
+came_to_phase words given masks others a b (inl same) = inl same
+came_to_phase words given masks others a b (inr (command, reads, p, q, takes)) = inr (takes.0, (command, reads, takes.1))
+
+pub one_status : (words : List (List ℕ)) (given : Given) (a b : Outcome) → Means words given a → Means words given b → (a.status ≡ b.status) ⊎ ComeToPhase words given.held
+one_status words given a b p q = came_to_phase words given p.0 q.0 a b (one_under words given p.0 q.0 a b p.1 q.1)
 
 -- words that are a command mean what it means
 pub meant_of : (words : List (List ℕ)) (given : Given) (command : Command) (outcome : Outcome) → ReadsAs words command → Means words given outcome → MeansSome command given outcome

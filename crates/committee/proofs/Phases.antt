@@ -1,8 +1,10 @@
 -- What a phase of five rounds leaves is what the play of its run defines, whichever minds go like members of the sharing.
-use Rattle.std.proofs.Common.{◌≡◌, inl, inr, ◌⊎◌, ℕ, zero, suc, ◌+◌, ◌-◌, ◌*◌, ◌<◌, ◌≤◌, Bool, true, false, cond, List, [], ◌∷◌, length, map, get_or, take, Some, refl, sym, ap, ap₂, ◌∙◌, subst, arith, All}
+use Rattle.std.proofs.Common.{◌≡◌, inl, inr, ◌⊎◌, ℕ, zero, suc, ◌+◌, ◌-◌, ◌*◌, ◌<◌, ◌≤◌, Bool, true, false, ◌||◌, not, cond, List, [], ◌∷◌, length, map, get_or, take, Some, refl, sym, ap, ap₂, ◌∙◌, subst, arith, All}
+use Rattle.std.specs.Prelude.{◌==◌}
 use Rattle.std.specs.List.{range_with_len}
+use Rattle.std.proofs.lemmas.Bool.Decides.{nat_tests}
 use Rattle.std.proofs.lemmas.List.{take_all}
-use Rattle.std.proofs.lemmas.List.FromFn.{get_or-map-range_with_len}
+use Rattle.std.proofs.lemmas.List.FromFn.{get_or-map-range_with_len, length-map-range_with_len}
 use Rattle.algebra61.specs.Field.{Fp}
 use Rattle.algebra61.specs.Grid.{Degree, AllShort}
 use Rattle.bivar61.specs.Grids.{IsGrid}
@@ -11,10 +13,10 @@ use Rattle.chance61.specs.Draws.{grids_drawn, grid_drawn, five_grids_drawn, draw
 use Rattle.chance61.proofs.DrawLemmas.{length-elements_drawn}
 use Rattle.sharing61.specs.Count.{how_many}
 use Rattle.sharing61.proofs.Count.{how_many_same}
-use Rattle.talk.specs.Shape.{Shape, Lawful}
+use Rattle.talk.specs.Shape.{Shape, Lawful, rounds}
 use Rattle.sizes.specs.Committees.{IsCommittee}
 use Rattle.talk.specs.Hears.{Hearing, Seated}
-use Rattle.talk.specs.Sync.{Ways, nobody, sync}
+use Rattle.talk.specs.Sync.{Ways, AllAllowed, all_seats, has, sync}
 use Rattle.talk.specs.Basics.{Nth}
 use Rattle.plays.specs.Play.{Play}
 use Rattle.plays.specs.Law.{ProperPlay, HonestIn}
@@ -24,14 +26,16 @@ use Rattle.members.specs.Shares.{accepted_count}
 use Rattle.members.specs.Laws.{BeginSharing, member_done}
 use Rattle.members.proofs.Minds.{ends_done, proper, honest_in_masks}
 use Rattle.machines.specs.Machines.{GoesLike, InMasks}
-use Rattle.machines.proofs.Runs.{length-sync, nobody_cut}
+use Rattle.machines.proofs.Runs.{length-sync}
 use Rattle.drillbook.specs.declared.order.Order.{Order}
 use Rattle.drillbook.specs.Orders.{names}
 use Rattle.drillbook.specs.Word.{DrilledMind, drilled_ways}
-use Rattle.drillbook.proofs.Told.{unnamed_speaks}
+use Rattle.drillbook.proofs.Ordered.{unnamed_speaks}
+use Rattle.committee.specs.Late.{in_each, down_after, IsLate, WasCut}
 use Rattle.committee.specs.Run.{numbered, drilled_on, drilled_all, AreMasks, phase_play}
 use Rattle.committee.specs.declared.phase.Phase.{Phase}
 use Rattle.committee.specs.Phase.{marked, marks_of, unless_down, shares_given, AllDone, shares_in, accepted_first, EndDone, IsReadOff, IsPhase}
+use Rattle.committee.proofs.Late.{each_has, has_each, after_up, cut_or_not}
 
 -- ---- items with their numbers
 module _ {A B : Type 0} where
@@ -172,6 +176,12 @@ module _ {M C : Type 0} (is : M → C → Type 0) (ended : ℕ → C) where
       (unless_same (down seat) (value m.inner) (lanes seat) (λ up. each seat m.inner (ends_here down seat m ms h up)))
       (shares_same value lanes each down (seat + 1) ms (ends_later down seat m ms h))
 
+only_one : (a b : ℕ) → not (a == b) ≡ false → a ≡ b
+only_one a b e = grind (arith, nat_tests)
+
+not_other : (a : ℕ) → not (a == a) ≡ false
+not_other a = grind (arith, nat_tests)
+
 -- ---- minds that go like members, some of them drilled
 -- the setting of a phase of five rounds among n members, with grids of this degree
 abbrev pub five_rounds : ℕ → ℕ → ℕ → Shape
@@ -210,42 +220,41 @@ module _ {M : Type 0} where
     pub degrees : (seat lane : ℕ) → down seat ≡ false → Degree degree (get_or (own seat) lane [])
     pub fresh : (seat : ℕ) → HonestSeat (five_rounds n t degree) down seat → (m : M) × Nth (seat - 1) m minds × is m (member_at (five_rounds n t degree) seat (own seat))
 
-  module _ (w : Ways M) (is : M → Member → Type 0) (n t degree : ℕ) (orders : List Order) (down : ℕ → Bool) (own : ℕ → List (List (List Fp))) (minds : List M) (st : Starts w is n t degree orders down own minds)
-      (masks : List ℕ) (allowed : AreMasks w (five_rounds n t degree) orders minds masks) where
-    -- the play of the run
-    abbrev played : Play
-    played = phase_play w (five_rounds n t degree) down own orders minds masks
-
-    begins : BeginSharing (drilled_ways w) (drilled_is is) (five_rounds n t degree) masks (drilled_all (five_rounds n t degree) orders minds) down own
-    begins = record {
+  module _ (w : Ways M) (is : M → Member → Type 0) (n t degree : ℕ) (orders : List Order) (before : ℕ → Bool) (own : ℕ → List (List (List Fp))) (minds : List M) (st : Starts w is n t degree orders before own minds)
+      (masks : List ℕ) (all : length masks ≡ rounds (five_rounds n t degree)) where
+    -- whoever is held to be down, besides who was before the phase
+    begins : (down : ℕ → Bool) → ((seat : ℕ) → down seat ≡ false → before seat ≡ false) → BeginSharing (drilled_ways w) (drilled_is is) (five_rounds n t degree) masks (drilled_all (five_rounds n t degree) orders minds) down own
+    begins down more = record {
       goes = undrilled_go w member_ways is member_turn st.goes;
       setting = lawful_five n t degree st.committee st.low;
-      rounds = omega (arith, allowed.0);
+      rounds = omega (arith, all);
       seated = length-numbered (drilled_on (five_rounds n t degree) orders) 1 minds ∙ st.all ∙ omega arith;
-      degrees = st.degrees;
+      degrees = λ seat lane up. st.degrees seat lane (more seat up);
       fresh = λ seat honest.
-          let first = st.fresh seat honest in
+          let first = st.fresh seat (record { from = honest.from; to = honest.to; up = more seat honest.up }) in
           let e : 1 + (seat - 1) ≡ seat = omega (arith, honest.from) in (
             drilled_on (five_rounds n t degree) orders (1 + (seat - 1)) first.0,
             drilled_nth (five_rounds n t degree) orders minds 1 (seat - 1) first.0 first.1,
-            (ap (names orders) e ∙ st.unnamed seat honest.up, first.2),
+            (ap (names orders) e ∙ st.unnamed seat (more seat honest.up), first.2),
           );
     }
 
-    -- who isn't down is in each mask, since nobody is cut
-    here : InMasks (five_rounds n t degree) 5 masks down
-    here = honest_in_masks (drilled_ways w) (drilled_is is) (five_rounds n t degree) masks (drilled_all (five_rounds n t degree) orders minds) down own begins
-        nobody allowed.1 (nobody_cut (five_rounds n t degree) 5 down)
+    begins_after : BeginSharing (drilled_ways w) (drilled_is is) (five_rounds n t degree) masks (drilled_all (five_rounds n t degree) orders minds) (down_after before masks) own
+    begins_after = begins (down_after before masks) (λ seat up. (after_up before masks seat up).0)
 
-    -- who isn't down is honest in the play
-    pub honest_in : (j : ℕ) → 1 ≤ j → j ≤ n → down j ≡ false → HonestIn (phase_play w (five_rounds n t degree) down own orders minds masks) j
-    honest_in j from to up = let e : 0 + j ≡ j = omega arith in record { from = from; to = to; up = ap down e ∙ up }
+    -- who isn't down after the phase is in each mask
+    here : InMasks (five_rounds n t degree) 5 masks (down_after before masks)
+    here round seat lt honest = each_has masks round seat (omega (arith, lt, all)) (after_up before masks seat honest.up).1
+
+    -- and is honest in the play
+    pub honest_in : (j : ℕ) → 1 ≤ j → j ≤ n → down_after before masks j ≡ false → HonestIn (phase_play w (five_rounds n t degree) (down_after before masks) own orders minds masks) j
+    honest_in j from to up = let e : 0 + j ≡ j = omega arith in record { from = from; to = to; up = ap (down_after before masks) e ∙ up }
 
     -- with at most the bound down the play is as agreement asks
-    pub proper_phase : how_many n down ≤ t → ProperPlay (phase_play w (five_rounds n t degree) down own orders minds masks)
+    pub proper_phase : how_many n (down_after before masks) ≤ t → ProperPlay (phase_play w (five_rounds n t degree) (down_after before masks) own orders minds masks)
     proper_phase few =
-        let same : how_many n (λ j. down (0 + j)) ≡ how_many n down = how_many_same n (λ j. down (0 + j)) down (λ k a b. let e : 0 + k ≡ k = omega arith in ap down e) in
-        proper (drilled_ways w) (drilled_is is) (five_rounds n t degree) masks (drilled_all (five_rounds n t degree) orders minds) down own begins here (omega (arith, same, few))
+        let same : how_many n (λ j. down_after before masks (0 + j)) ≡ how_many n (down_after before masks) = how_many_same n (λ j. down_after before masks (0 + j)) (down_after before masks) (λ k a b. let e : 0 + k ≡ k = omega arith in ap (down_after before masks) e) in
+        proper (drilled_ways w) (drilled_is is) (five_rounds n t degree) masks (drilled_all (five_rounds n t degree) orders minds) (down_after before masks) own begins_after here (omega (arith, same, few))
 
     pub length-run : length (sync (drilled_ways w) (five_rounds n t degree) 1 masks (drilled_all (five_rounds n t degree) orders minds)) ≡ n
     length-run =
@@ -253,19 +262,38 @@ module _ {M : Type 0} where
         ∙ length-numbered (drilled_on (five_rounds n t degree) orders) 1 minds ∙ st.all
 
     -- the minds after the run end as the play defines
-    pub ends : EndsAs is (member_done (phase_play w (five_rounds n t degree) down own orders minds masks) own) down 1 (sync (drilled_ways w) (five_rounds n t degree) 1 masks (drilled_all (five_rounds n t degree) orders minds))
+    pub ends : EndsAs is (member_done (phase_play w (five_rounds n t degree) (down_after before masks) own orders minds masks) own) (down_after before masks) 1 (sync (drilled_ways w) (five_rounds n t degree) 1 masks (drilled_all (five_rounds n t degree) orders minds))
     unfolding EndsAs
     ends k lt up =
         let s : Shape = five_rounds n t degree in
         let ms : List (DrilledMind M) = drilled_all s orders minds in
         let few : k < n = omega (arith, lt, length-run) in
-        let end = ends_done (drilled_ways w) (drilled_is is) s masks ms down own begins here (1 + k) (honest_in (1 + k) (omega arith) (omega (arith, few)) up) in
+        let end = ends_done (drilled_ways w) (drilled_is is) s masks ms (down_after before masks) own begins_after here (1 + k) (honest_in (1 + k) (omega arith) (omega (arith, few)) up) in
         let e : 0 + (1 + k) - 1 ≡ k = omega arith in
-        let five : take 5 masks ≡ masks = take_all 5 masks (omega (arith, allowed.0)) in (
+        let five : take 5 masks ≡ masks = take_all 5 masks (omega (arith, all)) in (
           end.0,
           subst (λ (z : ℕ × List ℕ). Nth z.0 end.0 (sync (drilled_ways w) s 1 z.1 ms)) (λ i. (e i, five i)) end.1,
           end.2.1,
         )
+
+    -- ---- a seat that is late was cut
+    module _ (cuts : ℕ → ℕ) (allowed : AllAllowed (drilled_ways w) (five_rounds n t degree) 1 (all_seats (five_rounds n t degree)) cuts masks (drilled_all (five_rounds n t degree) orders minds)) where
+      -- who wasn't down before the phase, and was cut in no round of it, is in each mask
+      pub uncut_each : (j : ℕ) → 1 ≤ j → j ≤ n → before j ≡ false → ((round : ℕ) → 1 ≤ round → round ≤ 5 → has (cuts round) j ≡ false) → in_each masks j ≡ true
+      uncut_each j from to up none =
+          let out : ℕ → Bool = λ seat. not (seat == j) in
+          let other : (seat : ℕ) → out seat ≡ false → seat ≡ j = λ seat e. only_one seat j e in
+          let all_in = honest_in_masks (drilled_ways w) (drilled_is is) (five_rounds n t degree) masks (drilled_all (five_rounds n t degree) orders minds) out own
+          (begins out (λ seat e. ap before (other seat e) ∙ up)) cuts allowed
+          (λ round seat lt honest. ap (λ (k : ℕ). has (cuts (suc round)) k) (other seat honest.up) ∙ none (suc round) (omega arith) (omega (arith, lt))) in
+          has_each masks j (λ k lt. all_in k j (omega (arith, lt, all)) (record { from = from; to = omega (arith, to); up = not_other j }))
+
+      pub late_was_cut : (j : ℕ) → 1 ≤ j → j ≤ n → IsLate before masks j → WasCut cuts 5 j
+      late_was_cut j from to late =
+          elim (cut_or_not cuts 5 j) [
+            | inl was ↦ was
+            | inr none ↦ absurd (true_not_false (sym (uncut_each j from to late.0 none) ∙ late.1))
+          ]
 
 -- ---- what is read off the minds in the end
 -- what is read off a mind that has come to the end that a play defines for its seat
@@ -305,52 +333,87 @@ pub range_same : {A : Type 0} (f g : ℕ → A) (a n : ℕ) → ((j : ℕ) → a
 range_same f g a zero agree = refl
 range_same f g a (suc n) agree = ap₂ (λ x xs. x ∷ xs) (agree a (omega arith) (omega arith)) (range_same f g (a + 1) n (λ j from to. agree j (omega (arith, from)) (omega (arith, to))))
 
+pub length-marks : (down : ℕ → Bool) (n : ℕ) → length (marks_of down n) ≡ n
+length-marks down n = length-map-range_with_len down 1 n
+
+-- minds that are done are so by marks of who is down
+pub done_marked : {M : Type 0} (done : M → Type 0) (down : ℕ → Bool) (marks : List Bool) (n seat : ℕ) (ms : List (DrilledMind M)) → marks ≡ marks_of down n → 1 ≤ seat → seat + length ms ≤ n + 1 →
+    AllDone done down seat ms → AllDone done (marked marks) seat ms
+done_marked done down marks n seat [] are from to h = tt
+done_marked done down marks n seat (m ∷ ms) are from to h = (
+  λ up. h.0 (sym (marks_right down n seat from (omega (arith, to))) ∙ sym (ap (λ (xs : List Bool). marked xs seat) are) ∙ up),
+  done_marked done down marks n (seat + 1) ms are (omega arith) (omega (arith, to)) h.1,
+)
+
+-- who is down after the phase, by marks of who was before it
+pub after_marked : (before : ℕ → Bool) (masks : List ℕ) (n j : ℕ) → 1 ≤ j → j ≤ n → down_after (marked (marks_of before n)) masks j ≡ down_after before masks j
+after_marked before masks n j from to = ap (λ (b : Bool). b || not (in_each masks j)) (marks_right before n j from to)
+
+pub marks_same : (f g : ℕ → Bool) (n : ℕ) → ((j : ℕ) → 1 ≤ j → j ≤ n → f j ≡ g j) → marks_of f n ≡ marks_of g n
+marks_same f g n agree = range_same f g 1 n (λ j from to. agree j from (omega (arith, to)))
+
 -- ---- a phase
-module _ {M : Type 0} (w : Ways M) (is : M → Member → Type 0) (n t degree : ℕ) (orders : List Order) (down : ℕ → Bool) (own : ℕ → List (List (List Fp))) (minds : List M) (st : Starts w is n t degree orders down own minds)
+module _ {M : Type 0} (w : Ways M) (is : M → Member → Type 0) (n t degree : ℕ) (orders : List Order) (before : ℕ → Bool) (own : ℕ → List (List (List Fp))) (minds : List M) (st : Starts w is n t degree orders before own minds)
     (done : M → Type 0) (value : M → List Fp) (accepted : M → ℕ) (lanes : Play → ℕ → List Fp)
-    (reads : (masks : List ℕ) → Reads is done value accepted (phase_play w (five_rounds n t degree) down own orders minds masks) own (lanes (phase_play w (five_rounds n t degree) down own orders minds masks))) where
-  agrees : (masks : List ℕ) → AreMasks w (five_rounds n t degree) orders minds masks → (k : ℕ) → k < length (sync (drilled_ways w) (five_rounds n t degree) 1 masks (drilled_all (five_rounds n t degree) orders minds)) →
-      marked (marks_of down n) (1 + k) ≡ down (1 + k)
-  agrees masks allowed k lt =
-      let all = length-run w is n t degree orders down own minds st masks allowed in
-      marks_right down n (1 + k) (omega arith) (omega (arith, lt, all))
+    (reads : (masks : List ℕ) → Reads is done value accepted (phase_play w (five_rounds n t degree) (down_after before masks) own orders minds masks) own (lanes (phase_play w (five_rounds n t degree) (down_after before masks) own orders minds masks))) where
+  agrees : (masks : List ℕ) → length masks ≡ rounds (five_rounds n t degree) → (k : ℕ) → k < length (sync (drilled_ways w) (five_rounds n t degree) 1 masks (drilled_all (five_rounds n t degree) orders minds)) →
+      down_after (marked (marks_of before n)) masks (1 + k) ≡ down_after before masks (1 + k)
+  agrees masks every k lt =
+      let all = length-run w is n t degree orders before own minds st masks every in
+      after_marked before masks n (1 + k) (omega arith) (omega (arith, lt, all))
 
-  ends_at : (masks : List ℕ) (allowed : AreMasks w (five_rounds n t degree) orders minds masks) →
-      EndsAs is (member_done (phase_play w (five_rounds n t degree) down own orders minds masks) own) (marked (marks_of down n)) 1 (sync (drilled_ways w) (five_rounds n t degree) 1 masks (drilled_all (five_rounds n t degree) orders minds))
-  ends_at masks allowed =
-      ends_marked is (member_done (phase_play w (five_rounds n t degree) down own orders minds masks) own) down (marked (marks_of down n)) 1 (sync (drilled_ways w) (five_rounds n t degree) 1 masks (drilled_all (five_rounds n t degree) orders minds))
-      (agrees masks allowed) (ends w is n t degree orders down own minds st masks allowed)
+  ends_at : (masks : List ℕ) (every : length masks ≡ rounds (five_rounds n t degree)) →
+      EndsAs is (member_done (phase_play w (five_rounds n t degree) (down_after before masks) own orders minds masks) own) (down_after (marked (marks_of before n)) masks) 1 (sync (drilled_ways w) (five_rounds n t degree) 1 masks (drilled_all (five_rounds n t degree) orders minds))
+  ends_at masks every =
+      ends_marked is (member_done (phase_play w (five_rounds n t degree) (down_after before masks) own orders minds masks) own) (down_after before masks) (down_after (marked (marks_of before n)) masks) 1 (sync (drilled_ways w) (five_rounds n t degree) 1 masks (drilled_all (five_rounds n t degree) orders minds))
+      (agrees masks every) (ends w is n t degree orders before own minds st masks every)
 
-  pub end_done : EndDone w done (five_rounds n t degree) (marked (marks_of down n)) (drilled_all (five_rounds n t degree) orders minds)
-  end_done masks all allowed =
-      all_done is (member_done (phase_play w (five_rounds n t degree) down own orders minds masks) own) done (reads masks).is_done (marked (marks_of down n)) 1
-      (sync (drilled_ways w) (five_rounds n t degree) 1 masks (drilled_all (five_rounds n t degree) orders minds)) (ends_at masks (all, allowed))
+  pub end_done : EndDone w done (five_rounds n t degree) (marked (marks_of before n)) (drilled_all (five_rounds n t degree) orders minds)
+  end_done masks every =
+      all_done is (member_done (phase_play w (five_rounds n t degree) (down_after before masks) own orders minds masks) own) done (reads masks).is_done (down_after (marked (marks_of before n)) masks) 1
+      (sync (drilled_ways w) (five_rounds n t degree) 1 masks (drilled_all (five_rounds n t degree) orders minds)) (ends_at masks every)
 
-  module _ (phase : Phase) (off : IsReadOff w value accepted (five_rounds n t degree) (marked (marks_of down n)) (drilled_all (five_rounds n t degree) orders minds) phase) where
-    pub phase_masks : AreMasks w (five_rounds n t degree) orders minds phase.masks
+  module _ (cuts : ℕ → ℕ) (phase : Phase) (off : IsReadOff w value accepted (five_rounds n t degree) (marked (marks_of before n)) cuts (drilled_all (five_rounds n t degree) orders minds) phase) where
+    pub phase_masks : AreMasks w (five_rounds n t degree) orders minds cuts phase.masks
     phase_masks = (off.all, off.allowed)
 
     abbrev play : Play
-    play = phase_play w (five_rounds n t degree) down own orders minds phase.masks
+    play = phase_play w (five_rounds n t degree) (down_after before phase.masks) own orders minds phase.masks
 
     abbrev after : List (DrilledMind M)
     after = sync (drilled_ways w) (five_rounds n t degree) 1 phase.masks (drilled_all (five_rounds n t degree) orders minds)
 
-    phase_shares : phase.shares.items ≡ shares_given down (lanes play) n
+    phase_down : phase.down.items ≡ marks_of (down_after before phase.masks) n
+    phase_down =
+        off.down
+        ∙ ap (marks_of (down_after (marked (marks_of before n)) phase.masks)) (length-numbered (drilled_on (five_rounds n t degree) orders) 1 minds ∙ st.all)
+        ∙ marks_same (down_after (marked (marks_of before n)) phase.masks) (down_after before phase.masks) n (after_marked before phase.masks n)
+
+    -- the marks after the phase mark who is down then
+    down_right : (j : ℕ) → 1 ≤ j → j ≤ n → marked phase.down.items j ≡ down_after before phase.masks j
+    down_right j from to = ap (λ (marks : List Bool). marked marks j) phase_down ∙ marks_right (down_after before phase.masks) n j from to
+
+    ends_down : EndsAs is (member_done play own) (marked phase.down.items) 1 after
+    ends_down =
+        ends_marked is (member_done play own) (down_after before phase.masks) (marked phase.down.items) 1 after
+        (λ k lt. down_right (1 + k) (omega arith) (omega (arith, lt, length-run w is n t degree orders before own minds st phase.masks off.all)))
+        (ends w is n t degree orders before own minds st phase.masks off.all)
+
+    phase_shares : phase.shares.items ≡ shares_given (down_after before phase.masks) (lanes play) n
     phase_shares =
         off.shares
-        ∙ shares_same is (member_done play own) value (lanes play) (reads phase.masks).has (marked (marks_of down n)) 1 after (ends_at phase.masks phase_masks)
-        ∙ ap (λ (k : ℕ). map (λ j. unless_down (marked (marks_of down n) j) (lanes play j)) (range_with_len 1 k)) (length-run w is n t degree orders down own minds st phase.masks phase_masks)
-        ∙ range_same (λ j. unless_down (marked (marks_of down n) j) (lanes play j)) (λ j. unless_down (down j) (lanes play j)) 1 n
-        (λ j from to. ap (λ (b : Bool). unless_down b (lanes play j)) (marks_right down n j from (omega (arith, to))))
+        ∙ shares_same is (member_done play own) value (lanes play) (reads phase.masks).has (marked phase.down.items) 1 after ends_down
+        ∙ ap (λ (k : ℕ). map (λ j. unless_down (marked phase.down.items j) (lanes play j)) (range_with_len 1 k)) (length-run w is n t degree orders before own minds st phase.masks off.all)
+        ∙ range_same (λ j. unless_down (marked phase.down.items j) (lanes play j)) (λ j. unless_down (down_after before phase.masks j) (lanes play j)) 1 n
+        (λ j from to. ap (λ (b : Bool). unless_down b (lanes play j)) (down_right j from (omega (arith, to))))
 
-    phase_accepted : how_many n down ≤ t → phase.accepted ≡ accepted_count play
+    phase_accepted : how_many n (down_after before phase.masks) < n → phase.accepted ≡ accepted_count play
     phase_accepted few =
-        let up : SomeUp down 1 n = some_up down n (omega (arith, few, st.committee.third)) in
-        let there : SomeUp (marked (marks_of down n)) 1 n = some_marked down (marked (marks_of down n)) n (marks_right down n) up in
+        let up : SomeUp (down_after before phase.masks) 1 n = some_up (down_after before phase.masks) n few in
+        let there : SomeUp (marked phase.down.items) 1 n = some_marked (down_after before phase.masks) (marked phase.down.items) n down_right up in
         off.accepted
-        ∙ accepted_same is (member_done play own) accepted (accepted_count play) (reads phase.masks).counts (marked (marks_of down n)) 1 after (ends_at phase.masks phase_masks)
-        (subst (SomeUp (marked (marks_of down n)) 1) (sym (length-run w is n t degree orders down own minds st phase.masks phase_masks)) there)
+        ∙ accepted_same is (member_done play own) accepted (accepted_count play) (reads phase.masks).counts (marked phase.down.items) 1 after ends_down
+        (subst (SomeUp (marked phase.down.items) 1) (sym (length-run w is n t degree orders before own minds st phase.masks off.all)) there)
 
-    pub is_phase : how_many n down ≤ t → IsPhase n (phase_play w (five_rounds n t degree) down own orders minds phase.masks) (lanes (phase_play w (five_rounds n t degree) down own orders minds phase.masks)) phase
-    is_phase few = record { accepted = phase_accepted few; shares = phase_shares }
+    pub is_phase : IsPhase n (phase_play w (five_rounds n t degree) (down_after before phase.masks) own orders minds phase.masks) (lanes (phase_play w (five_rounds n t degree) (down_after before phase.masks) own orders minds phase.masks)) phase
+    is_phase = record { down = phase_down; accepted = phase_accepted; shares = phase_shares }

@@ -1,39 +1,37 @@
 -- The plan of a command that begins a period is its outcome.
-use Rattle.std.proofs.Common.{◌≡◌, inl, inr, ℕ, ◌+◌, ◌*◌, ◌-◌, Bool, Option, Ok, Err, List, [], ◌∷◌, ◌++◌, length, map, not, refl, sym, ap, ◌∙◌, arith, subst}
+use Rattle.std.proofs.Common.{◌≡◌, inl, inr, ℕ, ◌≤◌, ◌-◌, Bool, Option, Ok, Err, List, [], ◌∷◌, ◌++◌, length, map, not, refl, sym, ap, ◌∙◌, arith, subst}
 use Rattle.std.specs.List.{range_with_len, filter}
 use Rattle.std.proofs.lemmas.List.FromFn.{length-map-range_with_len}
 use Rattle.algebra61.specs.Field.{Fp}
+use Rattle.sharing61.specs.Count.{how_many}
 use Rattle.shelf.specs.Held as shelf
 use Rattle.shelf.specs.Held.{Put}
 use Rattle.sharefile.specs.Files.{Now, now_bytes}
-use Rattle.talk.specs.Shape.{instances, create_shape}
 use Rattle.plays.specs.Play.{Play}
 use Rattle.members.specs.Shares.{accepted_count}
 use Rattle.periods.specs.Move.{IsMove}
-use Rattle.drillbook.specs.declared.order.Order.{Order}
 use Rattle.keyroom.specs.declared.plan.Plan.{Plan}
 use Rattle.keyroom.specs.declared.status.Status.{Status}
-use Rattle.keyroom.specs.Causes.{Cause, Done, Refusal, Shelf, Entropy, Sink, Memory, cause_of}
+use Rattle.keyroom.specs.Causes.{Cause, Done, Refusal, Shelf, Entropy, Crew, Sink, Memory, cause_of}
 use Rattle.keyroom.specs.Names.{now_name}
-use Rattle.keyroom.specs.Texts.{create_text, refresh_text, move_text}
+use Rattle.keyroom.specs.Texts.{move_text}
 use Rattle.keyroom.specs.Outcome.{done_with, AreFirst}
 use Rattle.committee.specs.declared.moving_phase.Moved.{Moved}
-use Rattle.committee.specs.declared.phase.Phase.{Phase}
-use Rattle.committee.specs.Answer.{Took, StopsBefore, PlansWith, refused_after}
-use Rattle.committee.specs.Causes.{IsOfWork, IsFromWork}
-use Rattle.committee.specs.Create.{AreCreateMasks, play_created, create_outcome, create_changes, created_shares, created_text}
-use Rattle.committee.specs.Links.{following_now, next_now}
-use Rattle.committee.specs.Move.{play_moved, down_moving, new_down, moved_shares, moved_now, move_changes, moved_text, EndsMove, Moves}
-use Rattle.committee.specs.MovePhase.{MayMove, down_new, IsMovePhase, shares_at, first_end, members_in, PlansMove}
+use Rattle.committee.specs.Late.{refused_after}
+use Rattle.committee.specs.Answer.{Took, StopsBefore, PlansWith}
+use Rattle.committee.specs.Causes.{IsOfPhase, IsFromPhase}
+use Rattle.committee.specs.Links.{following_now}
+use Rattle.committee.specs.Move.{play_moved, new_down, moved_shares, moved_now, move_changes, moved_text, enough_moved, EndsOpened, EndsMove, Moves}
+use Rattle.committee.specs.MovePhase.{MayMove, IsMovePhase, RefusesPhase, shares_at, first_end, members_in, PlansMove}
 use Rattle.committee.specs.Period.{removals, put_with, up_members, period_changes, next_changes}
-use Rattle.committee.specs.Phase.{next_with, IsRefreshPhase, IsRefreshPlan, IsCreatePhase, unless_down, shares_given, indexes_of, period_with}
-use Rattle.committee.specs.Refresh.{setting_of, AreRefreshMasks, play_refreshed, new_shares, refresh_changes, refreshed_text, refresh_outcome, Refreshes}
-use Rattle.committee.specs.Standing.{Standing, down_in, seeds_for}
+use Rattle.committee.specs.Phase.{next_with, unless_down, shares_given, indexes_of, period_with, marked, marks_of}
+use Rattle.committee.specs.Standing.{Standing, seeds_for}
 use Rattle.committee.proofs.Given.{given_same}
+use Rattle.committee.proofs.Left.{both_left, after_ok, after_refused}
 use Rattle.committee.proofs.Links.{following_same}
-use Rattle.committee.proofs.Movers.{CanMove, can_move, new_few, proper_move}
+use Rattle.committee.proofs.Movers.{CanMove, can_move, proper_move}
 use Rattle.committee.proofs.Outs.{outs_shares, FirstEnd, outs_end, corrected_same}
-use Rattle.committee.proofs.Phases.{SomeUp, some_up}
+use Rattle.committee.proofs.Phases.{marks_right, SomeUp, some_up}
 use Rattle.committee.proofs.Pushing.{done_same}
 
 map-same : (xs : List ℕ) → map (λ i. i) xs ≡ xs
@@ -56,89 +54,45 @@ indexes_same down lanes n = given_same (λ i x. i) lanes down 1 n ∙ map-same (
 pub length-shares : (down : ℕ → Bool) (lanes : ℕ → List Fp) (n : ℕ) (shares : List (Option (List Fp))) → shares ≡ shares_given down lanes n → length shares ≡ n
 length-shares down lanes n shares e = ap length e ∙ length-map-range_with_len _ 1 n
 
-text_same : (now : Now) (masks : List ℕ) (p : Play) (accepted : ℕ) (indexes : List ℕ) → p.shape ≡ create_shape now.n now.t → accepted ≡ accepted_count p → indexes ≡ up_members now.n p.down →
-    create_text now masks accepted (5 * now.n) indexes ≡ created_text now masks p
-text_same now masks p accepted indexes shape e f =
-    let all : 5 * now.n ≡ instances p.shape = omega arith ∙ ap instances (sym shape) in
-    rw (e, f, all) refl
-
-pub planned : (now : Now) (orders : List Order) (seeds : List (List ℕ)) (phase : Phase) (changes : List shelf.Change) (text : List ℕ) →
-    IsCreatePhase now.n now.t orders seeds phase →
-    changes ≡ period_with now phase.shares.items → text ≡ create_text now phase.masks phase.accepted (5 * now.n) (indexes_of 1 phase.shares.items) →
-    (masks : List ℕ) × AreCreateMasks now.n now.t orders seeds masks
-    × (done_with now.n changes text ≡ create_outcome now masks (play_created now.n now.t orders seeds masks))
-planned now orders seeds phase changes text is c t =
-    let p : Play = play_created now.n now.t orders seeds phase.masks in (
-      phase.masks,
-      is.0,
-      done_same now.n changes (create_changes now p) text (created_text now phase.masks p)
-          (c ∙ period_same now p.down (created_shares p) phase.shares.items is.1.shares)
-          (t ∙ text_same now phase.masks p phase.accepted (indexes_of 1 phase.shares.items) refl is.1.accepted (ap (indexes_of 1) is.1.shares ∙ indexes_same p.down (created_shares p) now.n)),
-    )
-
--- ---- a refresh
-next_text_same : (st : Standing) (now : Now) (masks : List ℕ) (p : Play) (accepted : ℕ) (indexes : List ℕ) → now ≡ next_now st.now p.down → p.shape ≡ setting_of st → accepted ≡ accepted_count p → indexes ≡ up_members st.now.n p.down →
-    refresh_text now masks accepted (5 * now.n) indexes ≡ refreshed_text st masks p
-next_text_same st now masks p accepted indexes is shape e f =
-    let all : 5 * now.n ≡ instances p.shape = ap (λ (x : Now). 5 * x.n) is ∙ omega arith ∙ ap instances (sym shape) in
-    rw (e, f, all, is) refl
-
-pub planned_next : (st : Standing) (seeds : List (List ℕ)) (phase : Phase) (changes : List shelf.Change) (text : List ℕ) →
-    IsRefreshPhase st seeds phase →
-    changes ≡ next_with st.now (next_now st.now (down_in st)) phase.shares.items →
-    text ≡ refresh_text (next_now st.now (down_in st)) phase.masks phase.accepted (5 * st.now.n) (indexes_of 1 phase.shares.items) →
-    (masks : List ℕ) × AreRefreshMasks st seeds masks
-    × (done_with (seeds_for st) changes text ≡ refresh_outcome st seeds masks (play_refreshed st seeds masks))
-planned_next st seeds phase changes text is c t =
-    let p : Play = play_refreshed st seeds phase.masks in (
-      phase.masks,
-      is.0,
-      done_same (seeds_for st) changes (refresh_changes st seeds p) text (refreshed_text st phase.masks p)
-          (c ∙ next_period_same st.now (next_now st.now (down_in st)) (down_in st) (new_shares st seeds p) phase.shares.items is.1.shares)
-          (t ∙ next_text_same st (next_now st.now (down_in st)) phase.masks p phase.accepted (indexes_of 1 phase.shares.items) refl refl is.1.accepted
-          (ap (indexes_of 1) is.1.shares ∙ indexes_same (down_in st) (new_shares st seeds p) st.now.n)),
-    )
-
--- with the seeds taken it is what a refresh means
-pub refresh_planned : (st : Standing) (seeds others : List (List ℕ)) (coming comes : Option (List (List ℕ))) (count : ℕ) (plan : Plan) →
-    others ≡ seeds → IsRefreshPlan st others plan → length seeds ≡ count → count ≡ seeds_for st → AreFirst seeds coming → Took count coming comes →
-    PlansWith (λ o. (masks : List ℕ) × Refreshes coming masks st o) (λ k. k ≡ seeds_for st) coming comes (Ok plan)
-refresh_planned st seeds others coming comes count plan same is all enough first took =
-    let made = subst (λ (xs : List (List ℕ)). IsRefreshPlan st xs plan) same is in
-    (seeds_for st, (made.0, (seeds, all ∙ enough, first, made.1, made.2)), subst (λ (k : ℕ). Took k coming comes) enough took)
-
 -- ---- a move
 move_text_same : (old now made : Now) (masks : List ℕ) (a b : ℕ) (c d e f : List ℕ) → now ≡ made → a ≡ b → c ≡ d → e ≡ f → move_text old now masks a c e ≡ move_text old made masks b d f
 move_text_same old now made masks a b c d e f h i j k = rw (h, i, j, k) refl
 
-module _ (st : Standing) (m u : ℕ) (may : MayMove st m u) (seeds : List (List ℕ)) (moved : Moved) (is : IsMovePhase st m u seeds moved) where
+module _ (st : Standing) (m u : ℕ) (may : MayMove st m u) (seeds : List (List ℕ)) (cuts : ℕ → ℕ) (moved : Moved) (is : IsMovePhase st m u seeds cuts moved) where
   abbrev play : Play
   play = play_moved st m u seeds moved.masks
 
   can : CanMove st m u
   can = can_move st m u may
 
+  -- enough members are left
+  pub phase_few : how_many m (new_down (play_moved st m u seeds moved.masks)) ≤ u
+  phase_few = (both_left st m u is.left play (omega (arith, can.old.third, can.old.some_bad)) (omega (arith, can.new.third, can.new.some_bad)) is.enough).1
+
   move : IsMove st.now.t play
-  move = proper_move st m u can seeds moved.masks is.masks
+  move = proper_move st m u can seeds cuts moved.masks is.masks phase_few
 
   end : FirstEnd play (first_end moved.outs.items)
   end =
-      let some : SomeUp (new_down play) 1 m = some_up (new_down play) m (omega (arith, new_few st m u can seeds moved.masks is.masks, can.new.third)) in
+      let some : SomeUp (new_down play) 1 m = some_up (new_down play) m (omega (arith, phase_few, can.new.third)) in
       outs_end play 1 moved.outs.items is.outs (subst (SomeUp (new_down play) 1) (sym is.all) some)
 
   -- where it has no result
   pub refused_move : (status : Status) → first_end moved.outs.items ≡ Err status → EndsMove st m u moved.masks (play_moved st m u seeds moved.masks) (refused_after (seeds_for st) status)
   refused_move status e =
       let none = subst (FirstEnd play) e end in
-      inr (none.0, none.1, none.2, ap (refused_after (seeds_for st)) none.3)
+      after_ok (seeds_for st) (enough_moved st m u play) is.left (λ left. EndsOpened st m u moved.masks play) (refused_after (seeds_for st) status) is.enough
+      (inr (none.0, none.1, none.2, ap (refused_after (seeds_for st)) none.3))
 
   -- where it has one
   module _ (mask : ℕ) (first : first_end moved.outs.items ≡ Ok mask) where
     one : FirstEnd play (Ok mask)
     one = subst (FirstEnd play) first end
 
-    now_is : (now : Now) → now ≡ following_now st.now m u (down_new st) → now ≡ moved_now st m u play
-    now_is now e = e ∙ following_same st.now m u (down_new st) (new_down play) (λ j from to. ap (λ (n : ℕ). down_moving st (n + j)) can.all)
+    now_is : (now : Now) → now ≡ following_now st.now m u (marked moved.down.items) → now ≡ moved_now st m u play
+    now_is now e =
+        e ∙ ap (λ (marks : List Bool). following_now st.now m u (marked marks)) is.down
+        ∙ following_same st.now m u (marked (marks_of (new_down play) m)) (new_down play) (marks_right (new_down play) m)
 
     shares_are : map shares_at moved.outs.items ≡ shares_given (new_down play) (moved_shares play one.0) m
     shares_are =
@@ -146,38 +100,46 @@ module _ (st : Standing) (m u : ℕ) (may : MayMove st m u) (seeds : List (List 
         ∙ ap (λ (n : ℕ). map (λ k. unless_down (new_down play k) (moved_shares play one.0 k)) (range_with_len 1 n)) is.all
 
     pub planned_move : (now : Now) (shares : List (Option (List Fp))) (changes : List shelf.Change) (text : List ℕ) →
-        now ≡ following_now st.now m u (down_new st) → shares ≡ map shares_at moved.outs.items → changes ≡ next_with st.now now shares →
+        now ≡ following_now st.now m u (marked moved.down.items) → shares ≡ map shares_at moved.outs.items → changes ≡ next_with st.now now shares →
         text ≡ move_text st.now now moved.masks moved.accepted (members_in mask st.now.n) (indexes_of 1 shares) →
         EndsMove st m u moved.masks (play_moved st m u seeds moved.masks) (done_with (seeds_for st) changes text)
     planned_move now shares changes text e f c t =
         let given = f ∙ shares_are in
-        inl (
+        after_ok (seeds_for st) (enough_moved st m u play) is.left (λ left. EndsOpened st m u moved.masks play) (done_with (seeds_for st) changes text) is.enough
+        (inl (
           one.0,
           one.1,
           done_same (seeds_for st) changes (move_changes st m u play one.0) text (moved_text st m u moved.masks play one.0)
               (c ∙ ap (λ (x : Now). next_with st.now x shares) (now_is now e) ∙ next_period_same st.now (moved_now st m u play) (new_down play) (moved_shares play one.0) shares given)
               (t ∙ move_text_same st.now now (moved_now st m u play) moved.masks moved.accepted (accepted_count play) _ _ _ _ (now_is now e) is.accepted
               (corrected_same st.now.n one.0 mask one.2) (ap (indexes_of 1) given ∙ indexes_same (new_down play) (moved_shares play one.0) m)),
-        )
+        ))
+
+-- where too few are left the refusal is what is meant
+pub refused_few : (st : Standing) (m u : ℕ) (seeds : List (List ℕ)) (cuts : ℕ → ℕ) (status : Status) → RefusesPhase st m u seeds cuts status → PlansMove st m u seeds cuts (Err status)
+refused_few st m u seeds cuts status refuses is =
+    let r = refuses is in
+    (r.0, r.1, after_refused (seeds_for st) (enough_moved st m u (play_moved st m u seeds r.0)) status (λ left. EndsOpened st m u r.0 (play_moved st m u seeds r.0)) r.2)
 
 -- with the seeds taken it is what a move means
-module _ (st : Standing) (m u : ℕ) (seeds others : List (List ℕ)) (coming comes : Option (List (List ℕ))) (count : ℕ) (same : others ≡ seeds) (all : length seeds ≡ count) (enough : count ≡ seeds_for st)
+module _ (st : Standing) (m u : ℕ) (seeds others : List (List ℕ)) (cuts : ℕ → ℕ) (coming comes : Option (List (List ℕ))) (count : ℕ) (same : others ≡ seeds) (all : length seeds ≡ count) (enough : count ≡ seeds_for st)
     (first : AreFirst seeds coming) (took : Took count coming comes) where
-  pub move_planned : (plan : Plan) → PlansMove st m u others (Ok plan) → PlansWith (λ o. (masks : List ℕ) × Moves m u coming masks st o) (λ k. k ≡ seeds_for st) coming comes (Ok plan)
+  pub move_planned : (plan : Plan) → PlansMove st m u others cuts (Ok plan) → PlansWith (λ o. (masks : List ℕ) × Moves m u coming cuts masks st o) (λ k. k ≡ seeds_for st) coming comes (Ok plan)
   move_planned plan is =
-      let made = subst (λ (xs : List (List ℕ)). PlansMove st m u xs (Ok plan)) same is in
+      let made = subst (λ (xs : List (List ℕ)). PlansMove st m u xs cuts (Ok plan)) same is in
       (seeds_for st, (made.0, (seeds, all ∙ enough, first, made.1, made.2)), subst (λ (k : ℕ). Took k coming comes) enough took)
 
-  refused_by : (status : Status) (cause : Cause) → cause_of status ≡ cause → IsOfWork cause → PlansMove st m u others (Err status) →
-      StopsBefore (λ o. (masks : List ℕ) × Moves m u coming masks st o) (λ k. k ≡ seeds_for st) coming comes status cause
+  refused_by : (status : Status) (cause : Cause) → cause_of status ≡ cause → IsOfPhase cause → PlansMove st m u others cuts (Err status) →
+      StopsBefore (λ o. (masks : List ℕ) × Moves m u coming cuts masks st o) (λ k. k ≡ seeds_for st) coming comes status cause
   refused_by status Done e by is = absurd by
   refused_by status Refusal e by is =
-      let made = subst (λ (xs : List (List ℕ)). PlansMove st m u xs (Err status)) same is e in
+      let made = subst (λ (xs : List (List ℕ)). PlansMove st m u xs cuts (Err status)) same is e in
       (seeds_for st, (made.0, (seeds, all ∙ enough, first, made.1, made.2)), subst (λ (k : ℕ). Took k coming comes) enough took)
   refused_by status Shelf e by is = absurd by
   refused_by status Entropy e by is = absurd by
+  refused_by status Crew e by is = (count, enough, took)
   refused_by status Sink e by is = absurd by
   refused_by status Memory e by is = inr (count, enough, (count, omega arith, took))
 
-  pub move_refused : (status : Status) → IsFromWork status → PlansMove st m u others (Err status) → PlansWith (λ o. (masks : List ℕ) × Moves m u coming masks st o) (λ k. k ≡ seeds_for st) coming comes (Err status)
-  move_refused status from is = refused_by status (cause_of status) refl from.by is
+  pub move_refused : (crew worked : ℕ) (status : Status) → IsFromPhase crew worked status → PlansMove st m u others cuts (Err status) → PlansWith (λ o. (masks : List ℕ) × Moves m u coming cuts masks st o) (λ k. k ≡ seeds_for st) coming comes (Err status)
+  move_refused crew worked status from is = refused_by status (cause_of status) refl from.by is

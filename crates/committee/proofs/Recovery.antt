@@ -9,7 +9,7 @@ use Rattle.keyroom.specs.declared.status.Status.TheVariants as answer
 use Rattle.keyroom.specs.declared.status.Status.TheVariants.{NoKey}
 use Rattle.keyroom.specs.declared.document.Direction.{Direction}
 use Rattle.keyroom.specs.declared.document.Direction.TheVariants.{Sealing, Opening}
-use Rattle.keyroom.specs.Causes.{Cause, Done, Refusal, Shelf, Entropy, Sink, Memory, cause_of}
+use Rattle.keyroom.specs.Causes.{Cause, Done, Refusal, Shelf, Entropy, Crew, Sink, Memory, cause_of}
 use Rattle.keyroom.specs.Outcome.{Outcome, done}
 use Rattle.keyroom.specs.Words.{Command, Recover, Check, ReadsAs, IsUsage}
 use Rattle.keyroom.specs.Steps.{files_of}
@@ -22,7 +22,8 @@ use Rattle.keyroom.specs.Texts.{recover_text, check_text}
 use Rattle.keyroom.specs.Answer.{Carries}
 use Rattle.keyroom.proofs.Spelling.{same_command}
 use Rattle.keyroom.proofs.Working.{work_has_key}
-use Rattle.committee.specs.Answer.{refused_after, World, CarriedOut, DoesBy, Does}
+use Rattle.committee.specs.Late.{refused_after}
+use Rattle.committee.specs.Answer.{World, CarriedOut, DoesBy, Does}
 use Rattle.committee.specs.Meaning.{Given, Means, TakesSeeds, AskForSeeds}
 use Rattle.committee.specs.Recovery.{EndsInText, AsksNone, Honestly, document_command}
 use Rattle.committee.proofs.Doing.{does_weaker}
@@ -43,6 +44,7 @@ module _ (means : Outcome → Type 0) (text : List ℕ) (one : (o : Outcome) →
   ends_by status Shelf is (inl same) = ap (λ (w : World). w.told) same
   ends_by status Shelf is (inr (o, c)) = (carried_text Shelf o c).1
   ends_by status Entropy is d = absurd (never d.1.0 d.1.1)
+  ends_by status Crew is d = absurd (never d.1.0 d.1.1)
   ends_by status Sink is (o, c) = (carried_text Sink o c).1
   ends_by status Memory is (inl (same, none)) = same.told
   ends_by status Memory is (inr (o, c)) = (carried_text Memory o c).1
@@ -73,9 +75,9 @@ document_keyed direction name source target polys held before now status does la
     keyless_end direction name source target polys held lane d.0 d.1.0 d.1.1 d.1.2
 
 -- ---- the clauses of the top call
-module _ (words : List (List ℕ)) (coming comes : Option (List (List ℕ))) (told tells : Option (List ℕ)) (status : Status) (old : Held) (new : Option Held) where
+module _ (words : List (List ℕ)) (cuts : ℕ → ℕ) (coming comes : Option (List (List ℕ))) (told tells : Option (List ℕ)) (status : Status) (old : Held) (new : Option Held) where
   abbrev given : Given
-  given = record { held = old; coming = coming }
+  given = record { held = old; coming = coming; cuts = cuts }
 
   abbrev was : World
   was = record { held = Some old; coming = coming; told = told }
@@ -101,12 +103,12 @@ module _ (words : List (List ℕ)) (coming comes : Option (List (List ℕ))) (to
       keyed = λ direction source target reads lane. document_keyed direction name source target polys old was is status (document direction source target reads) lane;
     }
 
-pub run_honestly : (words : List (List ℕ)) (coming comes : Option (List (List ℕ))) (told tells : Option (List ℕ)) (status : Status) (old new : Option Held) →
-    IfSome old (λ m. Does (Means words (record { held = m; coming = coming })) (AskForSeeds words m) (record { held = old; coming = coming; told = told }) (record { held = new; coming = comes; told = tells }) status) →
+pub run_honestly : (words : List (List ℕ)) (cuts : ℕ → ℕ) (coming comes : Option (List (List ℕ))) (told tells : Option (List ℕ)) (status : Status) (old new : Option Held) →
+    IfSome old (λ m. Does (Means words (record { held = m; coming = coming; cuts = cuts })) (AskForSeeds words m) (record { held = old; coming = coming; told = told }) (record { held = new; coming = comes; told = tells }) status) →
     IfSome old (λ m. (name : List ℕ) (now : Now) (polys : List Polynomial) → HonestFiles name now m polys →
     Honestly words name now polys m (record { held = old; coming = coming; told = told }) (record { held = new; coming = comes; told = tells }) status)
-run_honestly words coming comes told tells status None new does = tt
-run_honestly words coming comes told tells status (Some old) new does = honestly words coming comes told tells status old new does
+run_honestly words cuts coming comes told tells status None new does = tt
+run_honestly words cuts coming comes told tells status (Some old) new does = honestly words cuts coming comes told tells status old new does
 
 -- words that are no command are none of these
 pub no_command : (words : List (List ℕ)) (before after : World) (status : Status) (old : Option Held) → IsUsage words →

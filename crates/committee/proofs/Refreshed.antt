@@ -2,8 +2,10 @@
 use Rattle.std.proofs.Common.{◌≡◌, ℕ, ◌+◌, ◌-◌, ◌≤◌, false, List, [], ◌∷◌, length, get_or, Option, Some, None, refl, sym, ap, ◌∙◌, subst, arith}
 use Rattle.algebra61.specs.Field.{Fp}
 use Rattle.algebra61.specs.Grid.{Degree}
+use Rattle.sharing61.specs.Count.{how_many}
+use Rattle.sizes.specs.Committees.{IsCommittee}
 use Rattle.talk.specs.Part.{part_ways, part_is, part_made_for, part_may}
-use Rattle.talk.specs.Shape.{Shape}
+use Rattle.talk.specs.Shape.{Shape, rounds}
 use Rattle.talk.specs.Hears.{Hearing, Seated}
 use Rattle.plays.specs.Play.{Play, seat_of}
 use Rattle.plays.specs.Law.{ProperPlay, HonestIn}
@@ -17,11 +19,11 @@ use Rattle.keyroom.specs.declared.steps.Found.{Found}
 use Rattle.committee.specs.Run.{numbered, drilled_on, drilled_all}
 use Rattle.committee.specs.Refresh.{keeping, setting_of, holdings_in, keeper_on, keepers_on, AreRefreshMasks, play_refreshed, old_shares, new_shares}
 use Rattle.committee.specs.Standing.{Standing, down_in, Holding, holdings, holding_or_none, held_on}
+use Rattle.committee.specs.Late.{down_after, IsLate, WasCut}
 use Rattle.committee.specs.declared.phase.Phase.{Phase}
-use Rattle.committee.specs.Phase.{marked, marks_of, EndDone, IsReadOff, IsPhase, IsReady}
-use Rattle.committee.proofs.Committees.{committee_of}
+use Rattle.committee.specs.Phase.{marked, marks_of, EndDone, IsReadOff, IsPhase}
 use Rattle.committee.proofs.Holdings.{length-holdings, each_holding, takes_part, up_is}
-use Rattle.committee.proofs.Phases.{length-numbered, nth_numbered, none_degree, grids_degree, Starts, Reads, honest_in, proper_phase, end_done, is_phase}
+use Rattle.committee.proofs.Phases.{length-numbered, nth_numbered, none_degree, grids_degree, Starts, Reads, honest_in, proper_phase, late_was_cut, end_done, is_phase}
 
 -- ---- what the members take part with
 holdings_degree : (degree : ℕ) (files : List Found) (seeds : List (List ℕ)) (place lane : ℕ) → degree ≤ 14 → Degree degree (get_or (holding_or_none (get_or (holdings (keeping degree) 1 files seeds) place None)).grids lane [])
@@ -61,8 +63,8 @@ keepers_read p own old flat = record {
 abbrev keeper_with : Member → List Fp → Keeper
 keeper_with member old = record { member = member; old = old }
 
--- ---- a refresh that is ready
-module _ (st : Standing) (ready : IsReady st) (seeds : List (List ℕ)) where
+-- ---- the members of a committee that has as many share files
+module _ (st : Standing) (committee : IsCommittee st.now.n st.now.t) (every_file : length st.files ≡ st.now.n) (seeds : List (List ℕ)) where
   sits : (seat : ℕ) → 1 ≤ seat → down_in st seat ≡ false → part_is (IsKeeper (λ j. old_shares st seeds j)) (keeper_on (setting_of st) seat (get_or (holdings_in st seeds) (seat - 1) None))
       (member_at (setting_of st) seat (held_on (holdings_in st seeds) seat).grids)
   sits seat from up =
@@ -72,28 +74,30 @@ module _ (st : Standing) (ready : IsReady st) (seeds : List (List ℕ)) where
 
   starts : Starts (part_ways keeper_ways) (part_is (IsKeeper (λ j. old_shares st seeds j))) st.now.n st.now.t (st.now.t - 1) st.orders (down_in st) (λ seat. (held_on (holdings_in st seeds) seat).grids) (keepers_on (setting_of st) (holdings_in st seeds))
   starts = record {
-    committee = committee_of st.now.n st.now.t ready.is_now.size ready.is_now.bound;
+    committee = committee;
     low = omega arith;
     goes = keepers_go (λ j. old_shares st seeds j);
-    all = length-numbered (keeper_on (setting_of st)) 1 (holdings_in st seeds) ∙ length-holdings (keeping (st.now.t - 1)) 1 st.files seeds ∙ ready.all;
+    all = length-numbered (keeper_on (setting_of st)) 1 (holdings_in st seeds) ∙ length-holdings (keeping (st.now.t - 1)) 1 st.files seeds ∙ every_file;
     unnamed = λ seat up. (up_is st seat up).0;
-    degrees = λ seat lane up. holdings_degree (st.now.t - 1) st.files seeds (seat - 1) lane (omega (arith, (committee_of st.now.n st.now.t ready.is_now.size ready.is_now.bound).third, (committee_of st.now.n st.now.t ready.is_now.size ready.is_now.bound).most));
+    degrees = λ seat lane up. holdings_degree (st.now.t - 1) st.files seeds (seat - 1) lane (omega (arith, committee.third, committee.most));
     fresh = λ seat honest.
         let e : 1 + (seat - 1) ≡ seat = omega (arith, honest.from) in (
           keeper_on (setting_of st) (1 + (seat - 1)) (get_or (holdings_in st seeds) (seat - 1) None),
-          nth_numbered (keeper_on (setting_of st)) None 1 (seat - 1) (holdings_in st seeds) (omega (arith, honest.from, honest.to, ready.all, length-holdings (keeping (st.now.t - 1)) 1 st.files seeds)),
+          nth_numbered (keeper_on (setting_of st)) None 1 (seat - 1) (holdings_in st seeds) (omega (arith, honest.from, honest.to, every_file, length-holdings (keeping (st.now.t - 1)) 1 st.files seeds)),
           subst (λ (k : ℕ). part_is (IsKeeper (λ j. old_shares st seeds j)) (keeper_on (setting_of st) k (get_or (holdings_in st seeds) (seat - 1) None)) (member_at (setting_of st) seat (held_on (holdings_in st seeds) seat).grids)) (sym e) (sits seat honest.from honest.up),
         );
   }
 
-  pub refresh_honest : (masks : List ℕ) → AreRefreshMasks st seeds masks → (j : ℕ) → 1 ≤ j → j ≤ st.now.n → down_in st j ≡ false → HonestIn (play_refreshed st seeds masks) j
-  refresh_honest masks allowed =
-      honest_in (part_ways keeper_ways) (part_is (IsKeeper (λ j. old_shares st seeds j))) st.now.n st.now.t (st.now.t - 1) st.orders (down_in st) (λ seat. (held_on (holdings_in st seeds) seat).grids) (keepers_on (setting_of st) (holdings_in st seeds)) starts masks allowed
+  pub refresh_honest : (masks : List ℕ) → length masks ≡ rounds (setting_of st) → (j : ℕ) → 1 ≤ j → j ≤ st.now.n → down_after (down_in st) masks j ≡ false → HonestIn (play_refreshed st seeds masks) j
+  refresh_honest masks every = honest_in (part_ways keeper_ways) (part_is (IsKeeper (λ j. old_shares st seeds j))) st.now.n st.now.t (st.now.t - 1) st.orders (down_in st) (λ seat. (held_on (holdings_in st seeds) seat).grids) (keepers_on (setting_of st) (holdings_in st seeds)) starts masks every
 
-  -- at most the bound is down, so the play is as agreement asks
-  pub proper_refresh : (masks : List ℕ) → AreRefreshMasks st seeds masks → ProperPlay (play_refreshed st seeds masks)
-  proper_refresh masks allowed =
-      proper_phase (part_ways keeper_ways) (part_is (IsKeeper (λ j. old_shares st seeds j))) st.now.n st.now.t (st.now.t - 1) st.orders (down_in st) (λ seat. (held_on (holdings_in st seeds) seat).grids) (keepers_on (setting_of st) (holdings_in st seeds)) starts masks allowed ready.few
+  -- with at most the bound down the play is as agreement asks
+  pub proper_refresh : (masks : List ℕ) → length masks ≡ rounds (setting_of st) → how_many st.now.n (down_after (down_in st) masks) ≤ st.now.t → ProperPlay (play_refreshed st seeds masks)
+  proper_refresh masks every few = proper_phase (part_ways keeper_ways) (part_is (IsKeeper (λ j. old_shares st seeds j))) st.now.n st.now.t (st.now.t - 1) st.orders (down_in st) (λ seat. (held_on (holdings_in st seeds) seat).grids) (keepers_on (setting_of st) (holdings_in st seeds)) starts masks every few
+
+  -- who is late was cut
+  pub refresh_late : (cuts : ℕ → ℕ) (masks : List ℕ) → AreRefreshMasks st seeds cuts masks → (j : ℕ) → 1 ≤ j → j ≤ st.now.n → IsLate (down_in st) masks j → WasCut cuts 5 j
+  refresh_late cuts masks allowed = late_was_cut (part_ways keeper_ways) (part_is (IsKeeper (λ j. old_shares st seeds j))) st.now.n st.now.t (st.now.t - 1) st.orders (down_in st) (λ seat. (held_on (holdings_in st seeds) seat).grids) (keepers_on (setting_of st) (holdings_in st seeds)) starts masks allowed.0 cuts allowed.1
 
   reads : (masks : List ℕ) → Reads (part_is (IsKeeper (λ j. old_shares st seeds j))) HasResult shares_in accepted_by (play_refreshed st seeds masks) (λ seat. (held_on (holdings_in st seeds) seat).grids) (new_shares st seeds (play_refreshed st seeds masks))
   reads masks = keepers_read (play_refreshed st seeds masks) (λ seat. (held_on (holdings_in st seeds) seat).grids) (λ j. old_shares st seeds j) refl
@@ -103,11 +107,11 @@ module _ (st : Standing) (ready : IsReady st) (seeds : List (List ℕ)) where
       end_done (part_ways keeper_ways) (part_is (IsKeeper (λ j. old_shares st seeds j))) st.now.n st.now.t (st.now.t - 1) st.orders (down_in st) (λ seat. (held_on (holdings_in st seeds) seat).grids) (keepers_on (setting_of st) (holdings_in st seeds)) starts
       HasResult shares_in accepted_by (new_shares st seeds) reads
 
-  module _ (phase : Phase) (off : IsReadOff (part_ways keeper_ways) shares_in accepted_by (setting_of st) (marked (marks_of (down_in st) st.now.n)) (drilled_all (setting_of st) st.orders (keepers_on (setting_of st) (holdings_in st seeds))) phase) where
-    pub refresh_masks : AreRefreshMasks st seeds phase.masks
+  module _ (cuts : ℕ → ℕ) (phase : Phase) (off : IsReadOff (part_ways keeper_ways) shares_in accepted_by (setting_of st) (marked (marks_of (down_in st) st.now.n)) cuts (drilled_all (setting_of st) st.orders (keepers_on (setting_of st) (holdings_in st seeds))) phase) where
+    pub refresh_masks : AreRefreshMasks st seeds cuts phase.masks
     refresh_masks = (off.all, off.allowed)
 
     pub refresh_is_phase : IsPhase st.now.n (play_refreshed st seeds phase.masks) (new_shares st seeds (play_refreshed st seeds phase.masks)) phase
     refresh_is_phase =
         is_phase (part_ways keeper_ways) (part_is (IsKeeper (λ j. old_shares st seeds j))) st.now.n st.now.t (st.now.t - 1) st.orders (down_in st) (λ seat. (held_on (holdings_in st seeds) seat).grids) (keepers_on (setting_of st) (holdings_in st seeds)) starts
-        HasResult shares_in accepted_by (new_shares st seeds) reads phase off ready.few
+        HasResult shares_in accepted_by (new_shares st seeds) reads cuts phase off

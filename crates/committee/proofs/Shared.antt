@@ -1,4 +1,4 @@
--- What the old members of a move share: each that isn't drilled its share. So with enough sound share files it is near to the
+-- What the old members of a move share: each that is neither drilled nor late its share. So with enough sound share files it is near to the
 -- polynomials that these lie on.
 use Rattle.std.proofs.Common.{◌≡◌, inl, inr, ℕ, zero, suc, ◌+◌, ◌-◌, ◌<◌, ◌≤◌, Bool, true, false, cond, not, ◌||◌, eqb, List, [], length, get_or, Option, refl, sym, ap, ◌∙◌, subst, arith}
 use Rattle.std.proofs.lemmas.Bool.{cases_lt}
@@ -21,7 +21,7 @@ use Rattle.periods.proofs.Opening.{opened_is, one_opened}
 use Rattle.periods.proofs.Polynomials.{Constants, constants_of, one_constant, honest_constant, dealer_there, number_below}
 use Rattle.drillbook.specs.declared.order.Order.{Order}
 use Rattle.drillbook.specs.Orders.{names, added_by, wrong_of}
-use Rattle.drillbook.proofs.Told.{unnamed_untold}
+use Rattle.drillbook.proofs.Ordered.{unnamed_has_no_order}
 use Rattle.shelf.specs.Held.{Held}
 use Rattle.sharefile.specs.Files.{Share}
 use Rattle.keyroom.specs.declared.steps.Found.{Found}
@@ -30,18 +30,20 @@ use Rattle.keyroom.specs.Decoding.{lane_of as lane_in, EnoughLieOn}
 use Rattle.keyroom.specs.Sound.{is_valid}
 use Rattle.keyroom.specs.Steps.{share_of, files_of}
 use Rattle.keyroom.proofs.Counting.{old_seat}
-use Rattle.committee.specs.Kept.{undrilled}
+use Rattle.committee.specs.Kept.{files_without}
+use Rattle.committee.specs.Late.{in_each, down_after}
 use Rattle.committee.specs.Move.{dealt_shares, seats_in, down_moving, play_moved}
 use Rattle.committee.specs.Moved.{AreShared}
 use Rattle.committee.specs.Standing.{Standing, Holding, holding_or_none, held_on}
 use Rattle.committee.proofs.GoingOn.{file_at}
+use Rattle.committee.proofs.Late.{after_up, up_after}
 use Rattle.committee.proofs.Movers.{CanMove, old_takes}
 use Rattle.committee.proofs.Staying.{fine_counts, is_sound_on, sound_many}
 
 -- ---- what a seat is told to add
 -- 0 where no order names it
 unnamed_adds : (orders : List Order) (seat : ℕ) → names orders seat ≡ false → wrong_of orders seat ≡ zeroₚ
-unnamed_adds orders seat unnamed = ap added_by (unnamed_untold orders seat 1 unnamed)
+unnamed_adds orders seat unnamed = ap added_by (unnamed_has_no_order orders seat 1 unnamed)
 
 -- ---- entries other than 0, counted
 one_at_most : (b : Bool) → cond b 0 1 ≤ 1
@@ -91,11 +93,11 @@ module _ (st : Standing) (m u : ℕ) (can : CanMove st m u) (seeds : List (List 
 
   -- so that is what it shares
   shares_own : (lane : ℕ) (shared : ℕ → Fp) → lane < 5 → AreConstants (play_moved st m u seeds masks) lane shared →
-      (index : ℕ) (file : Share) → 1 ≤ index → index ≤ st.now.n → names st.orders index ≡ false → get_or st.files (index - 1) Absent ≡ Valid file → shared index ≡ get_or file.lanes lane zeroₚ
-  shares_own lane shared lt are index file from to unnamed is =
+      (index : ℕ) (file : Share) → 1 ≤ index → index ≤ st.now.n → names st.orders index ≡ false → in_each masks index ≡ true → get_or st.files (index - 1) Absent ≡ Valid file → shared index ≡ get_or file.lanes lane zeroₚ
+  shares_own lane shared lt are index file from to unnamed in_all is =
       one_constant u (instance_of play (instance_at index lane)) (shared index) (grid_at (play.grid (instance_at index lane)) zeroₚ zeroₚ)
       (moves.proper (instance_at index lane) (number_below play index lane from to lt)) (are index from to)
-      (honest_constant play index lane moves.proper from to lt (old_is_up index file to unnamed is))
+      (honest_constant play index lane moves.proper from to lt (up_after (down_moving st) masks index (old_is_up index file to unnamed is) in_all))
       ∙ deals_own lane index file lt from to unnamed is
 
   -- in all lanes
@@ -129,14 +131,14 @@ module _ (st : Standing) (m u : ℕ) (can : CanMove st m u) (seeds : List (List 
     file_here : (index : ℕ) → 1 ≤ index → index ≤ st.now.n → get_or st.files (index - 1) Absent ≡ share_of st.now held index
     file_here index from to = ap (λ (fs : List Found). get_or fs (index - 1) Absent) files ∙ file_at st.now held index from to
 
-    pub are_shared : (lane : ℕ) (shared : ℕ → Fp) → lane < 5 → AreConstants (play_moved st m u seeds masks) lane shared → AreShared st held (play_moved st m u seeds masks) lane shared
+    pub are_shared : (lane : ℕ) (shared : ℕ → Fp) → lane < 5 → AreConstants (play_moved st m u seeds masks) lane shared → AreShared st held masks (play_moved st m u seeds masks) lane shared
     are_shared lane shared lt are = record {
       are = are;
-      own = λ index file from to unnamed has. shares_own lane shared lt are index file from to unnamed (file_here index from to ∙ has);
+      own = λ index file from to unnamed in_all has. shares_own lane shared lt are index file from to unnamed in_all (file_here index from to ∙ has);
     }
 
     -- the polynomials of enough sound share files are near
-    pub near_sound : (polys : List Polynomial) → EnoughLieOn st.now.n st.now.t (undrilled st.orders 1 (files_of st.now held)) polys → (lane : ℕ) (shared : ℕ → Fp) → lane < 5 → AreConstants (play_moved st m u seeds masks) lane shared →
+    pub near_sound : (polys : List Polynomial) → EnoughLieOn st.now.n st.now.t (files_without (down_after (names st.orders) masks) 1 (files_of st.now held)) polys → (lane : ℕ) (shared : ℕ → Fp) → lane < 5 → AreConstants (play_moved st m u seeds masks) lane shared →
         IsWithin st.now.n st.now.t shared (lane_in polys lane).coeffs
     near_sound polys enough lane shared lt are =
         let q : List Fp = (lane_in polys lane).coeffs in
@@ -145,12 +147,13 @@ module _ (st : Standing) (m u : ℕ) (can : CanMove st m u) (seeds : List (List 
           few =
               omega (
                 arith,
-                sound_many st.now held st.orders polys enough,
-                few_nonzero st.now.n (entry (difference_from st.now.n shared q)) (is_sound_on polys st.orders (share_of st.now held))
+                sound_many st.now held (down_after (names st.orders) masks) polys enough,
+                few_nonzero st.now.n (entry (difference_from st.now.n shared q)) (is_sound_on polys (down_after (names st.orders) masks) (share_of st.now held))
                     (λ index from to good.
-                    let c = fine_counts polys index (names st.orders index) (share_of st.now held index) good in
+                    let c = fine_counts polys index (down_after (names st.orders) masks index) (share_of st.now held index) good in
+                    let up = after_up (names st.orders) masks index c.kept in
                     difference_at st.now.n index shared q from to
-                    ∙ ap (λ (v : Fp). v -ₚ eval q (fe index)) (shares_own lane shared lt are index c.file from to c.unnamed (file_here index from to ∙ c.is) ∙ sym (c.on lane lt))
+                    ∙ ap (λ (v : Fp). v -ₚ eval q (fe index)) (shares_own lane shared lt are index c.file from to up.0 up.1 (file_here index from to ∙ c.is) ∙ sym (c.on lane lt))
                     ∙ sub_self (eval q (fe index))),
               );
         }

@@ -13,8 +13,6 @@ use Rattle.algebra61.proofs.Near.{same_by_test}
 use Rattle.algebra61.proofs.Trim.{eval-trim, length-trim}
 use Rattle.sharing61.specs.Count.{how_many}
 use Rattle.sharing61.proofs.Count.{how_many_same, how_many_more}
-use Rattle.drillbook.specs.declared.order.Order.{Order}
-use Rattle.drillbook.specs.Orders.{names}
 use Rattle.shelf.specs.Held.{Held, Change, after}
 use Rattle.sharefile.specs.Files.{Now, IsNow, Share}
 use Rattle.keyroom.specs.declared.steps.Found.{Found}
@@ -23,7 +21,7 @@ use Rattle.keyroom.specs.declared.state.MemberState.TheVariants.{Wrong, Fine}
 use Rattle.keyroom.specs.Decoding.{lane_of, agrees, agrees_in, state_of, states_of, is_fine, EnoughLieOn, HonestFiles, key_of}
 use Rattle.keyroom.specs.Steps.{now_step, now_of, share_step, share_of, files_of}
 use Rattle.committee.specs.Begins.{IsLeft, HasBegun, GoesOn}
-use Rattle.committee.specs.Kept.{undrilled, KeyStays}
+use Rattle.committee.specs.Kept.{files_without, KeyStays}
 use Rattle.committee.specs.Period.{share_with}
 use Rattle.committee.proofs.Beginning.{begun_now, begun_share}
 use Rattle.committee.proofs.Phases.{range_same}
@@ -56,18 +54,18 @@ lies_agree polys j f on =
     let at : (lane : ℕ) → lane < 5 → agrees_in polys j f lane ≡ true = λ lane lt. eq-eqb _ _ (ap (λ (x : Fp). x.num) (on lane lt)) in
     rw (at 0 (omega arith), at 1 (omega arith), at 2 (omega arith), at 3 (omega arith), at 4 (omega arith)) refl
 
--- a member that counts: no order names it, and its valid file lies on the polynomials
-pub record Counts (polys : List Polynomial) (j : ℕ) (named : Bool) (o : Found) : Type 0 where
-  pub unnamed : named ≡ false
+-- a member that counts: it isn't left out, and its valid file lies on the polynomials
+pub record Counts (polys : List Polynomial) (j : ℕ) (out : Bool) (o : Found) : Type 0 where
+  pub kept : out ≡ false
   pub file : Share
   pub is : o ≡ Valid file
   pub on : LiesOn polys j file
 
 fine_cases : (polys : List Polynomial) (j : ℕ) (f : Share) (b : Bool) → agrees polys j f ≡ b → is_fine (cond b Fine Wrong) ≡ true → Counts polys j false (Valid f)
-fine_cases polys j f true is e = record { unnamed = refl; file = f; is = refl; on = agree_lies polys j f is }
+fine_cases polys j f true is e = record { kept = refl; file = f; is = refl; on = agree_lies polys j f is }
 fine_cases polys j f false is e = absurd cc
 
-pub fine_counts : (polys : List Polynomial) (j : ℕ) (named : Bool) (o : Found) → is_fine (state_of polys j (cond named Absent o)) ≡ true → Counts polys j named o
+pub fine_counts : (polys : List Polynomial) (j : ℕ) (out : Bool) (o : Found) → is_fine (state_of polys j (cond out Absent o)) ≡ true → Counts polys j out o
 fine_counts polys j true o e = absurd cc
 fine_counts polys j false Absent e = absurd cc
 fine_counts polys j false Invalid e = absurd cc
@@ -102,34 +100,34 @@ fine_behind polys file (suc n) k =
 fine_many : (polys : List Polynomial) (file : ℕ → Found) (n : ℕ) → count_by is_fine (states_of polys 1 (map file (range_with_len 1 n))) ≡ how_many n (fine_at polys file)
 fine_many polys file n = fine_behind polys file n 0 ∙ how_many_same n (λ i. fine_at polys file (0 + i)) (fine_at polys file) (λ i from to. let e : 0 + i ≡ i = omega arith in ap (fine_at polys file) e)
 
-undrilled_map : (orders : List Order) (file : ℕ → Found) (n k : ℕ) → undrilled orders k (map file (range_with_len k n)) ≡ map (λ j. cond (names orders j) Absent (file j)) (range_with_len k n)
-undrilled_map orders file zero k = refl
-undrilled_map orders file (suc n) k =
+without_map : (out : ℕ → Bool) (file : ℕ → Found) (n k : ℕ) → files_without out k (map file (range_with_len k n)) ≡ map (λ j. cond (out j) Absent (file j)) (range_with_len k n)
+without_map out file zero k = refl
+without_map out file (suc n) k =
     let next : k + 1 ≡ suc k = omega arith in
-    ap (λ (rest : List Found). cond (names orders k) Absent (file k) ∷ rest)
-    (subst (λ (i : ℕ). undrilled orders i (map file (range_with_len (k + 1) n)) ≡ map (λ j. cond (names orders j) Absent (file j)) (range_with_len (k + 1) n)) next (undrilled_map orders file n (k + 1)))
+    ap (λ (rest : List Found). cond (out k) Absent (file k) ∷ rest)
+    (subst (λ (i : ℕ). files_without out i (map file (range_with_len (k + 1) n)) ≡ map (λ j. cond (out j) Absent (file j)) (range_with_len (k + 1) n)) next (without_map out file n (k + 1)))
 
--- a member that isn't drilled, and whose valid file lies on the polynomials
-abbrev pub is_sound_on : List Polynomial → List Order → (ℕ → Found) → ℕ → Bool
-is_sound_on polys orders file j = fine_at polys (λ i. cond (names orders i) Absent (file i)) j
+-- a member that isn't left out, and whose valid file lies on the polynomials
+abbrev pub is_sound_on : List Polynomial → (ℕ → Bool) → (ℕ → Found) → ℕ → Bool
+is_sound_on polys out file j = fine_at polys (λ i. cond (out i) Absent (file i)) j
 
-pub sound_many : (now : Now) (held : Held) (orders : List Order) (polys : List Polynomial) → EnoughLieOn now.n now.t (undrilled orders 1 (files_of now held)) polys → now.n ≤ now.t + how_many now.n (is_sound_on polys orders (share_of now held))
-sound_many now held orders polys enough =
+pub sound_many : (now : Now) (held : Held) (out : ℕ → Bool) (polys : List Polynomial) → EnoughLieOn now.n now.t (files_without out 1 (files_of now held)) polys → now.n ≤ now.t + how_many now.n (is_sound_on polys out (share_of now held))
+sound_many now held out polys enough =
     omega (
       arith,
       enough.enough,
-      ap (λ (fs : List Found). count_by is_fine (states_of polys 1 fs)) (undrilled_map orders (share_of now held) now.n 1),
-      fine_many polys (λ i. cond (names orders i) Absent (share_of now held i)) now.n,
+      ap (λ (fs : List Found). count_by is_fine (states_of polys 1 fs)) (without_map out (share_of now held) now.n 1),
+      fine_many polys (λ i. cond (out i) Absent (share_of now held i)) now.n,
     )
 
 -- the files of sound members are honest files
-fine_now : (polys : List Polynomial) (named : Bool) (j : ℕ) (o : Found) → is_fine (state_of polys j (cond named Absent o)) ≡ true → is_fine (state_of polys j o) ≡ true
-fine_now polys named j o e =
-    let c = fine_counts polys j named o e in
+fine_now : (polys : List Polynomial) (out : Bool) (j : ℕ) (o : Found) → is_fine (state_of polys j (cond out Absent o)) ≡ true → is_fine (state_of polys j o) ≡ true
+fine_now polys out j o e =
+    let c = fine_counts polys j out o e in
     counts_fine polys j o c.file c.is c.on
 
-pub honest_before : (name : List ℕ) (now : Now) (held : Held) (orders : List Order) (polys : List Polynomial) → now_of name held ≡ Ok now → EnoughLieOn now.n now.t (undrilled orders 1 (files_of now held)) polys → HonestFiles name now held polys
-honest_before name now held orders polys now_is enough = record {
+pub honest_before : (name : List ℕ) (now : Now) (held : Held) (out : ℕ → Bool) (polys : List Polynomial) → now_of name held ≡ Ok now → EnoughLieOn now.n now.t (files_without out 1 (files_of now held)) polys → HonestFiles name now held polys
+honest_before name now held out polys now_is enough = record {
   now_is = now_is;
   enough = record {
     count = enough.count;
@@ -137,9 +135,9 @@ honest_before name now held orders polys now_is enough = record {
     enough =
         omega (
           arith,
-          sound_many now held orders polys enough,
+          sound_many now held out polys enough,
           fine_many polys (share_of now held) now.n,
-          how_many_more now.n (is_sound_on polys orders (share_of now held)) (fine_at polys (share_of now held)) (λ j from to e. fine_now polys (names orders j) j (share_of now held j) e),
+          how_many_more now.n (is_sound_on polys out (share_of now held)) (fine_at polys (share_of now held)) (λ j from to e. fine_now polys (out j) j (share_of now held j) e),
         );
   };
 }

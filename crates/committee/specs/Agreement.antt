@@ -35,8 +35,8 @@ PutsOnOneLine now changes =
 -- so it is of a create that is done, whatever the drilled members said, and with whatever link files are looked at
 abbrev pub CreatesOnOneLine : Type 0
 CreatesOnOneLine =
-    (name : List ℕ) (n t : ℕ) (drill : Option (List ℕ)) (held : Held) (coming : Option (List (List ℕ))) (masks : List ℕ) (outcome : Outcome) →
-    IsInRange (Create name n t drill) → MeansCreate name n t drill held coming masks outcome → outcome.status ≡ status.Done →
+    (name : List ℕ) (n t : ℕ) (drill : Option (List ℕ)) (held : Held) (coming : Option (List (List ℕ))) (cuts : ℕ → ℕ) (masks : List ℕ) (outcome : Outcome) →
+    IsInRange (Create name n t drill) → MeansCreate name n t drill held coming cuts masks outcome → outcome.status ≡ status.Done →
     (link : Option Link) → PutsOnOneLine (first_now name n t link) outcome.changes
 
 -- in each lane the valid share files of a key that a shelf holds lie on one polynomial of degree at most the bound

@@ -1,18 +1,15 @@
 -- What the top call leaves: all of what the words mean, or a part of it where the outside or memory failed.
-use Rattle.std.specs.Prelude.{◌≡◌, ◌≤◌, ◌⊎◌, ℕ, List, [], length, drop, Option, IfSome, Result, Ok, Err}
+use Rattle.std.specs.Prelude.{◌≡◌, ◌≤◌, ◌⊎◌, ℕ, List, length, drop, Option, IfSome, Result, Ok, Err}
 use Rattle.std.specs.Option.{option_map}
 use Rattle.shelf.specs.Held.{Held}
 use Rattle.keyroom.specs.declared.plan.Plan.{Plan}
 use Rattle.keyroom.specs.declared.status.Status.{Status}
 use Rattle.keyroom.specs.declared.status.Status.TheVariants as answer
-use Rattle.keyroom.specs.Causes.{Cause, Done, Refusal, Shelf, Entropy, Sink, Memory, cause_of}
+use Rattle.keyroom.specs.Causes.{Cause, Done, Refusal, Shelf, Entropy, Crew, Sink, Memory, cause_of}
 use Rattle.keyroom.specs.Outcome.{Outcome}
 use Rattle.keyroom.specs.Changes.{outcome_of}
 use Rattle.keyroom.specs.Answer.{IsChanged, IsTold, Carries}
-
--- a refusal when so many seeds were taken
-abbrev pub refused_after : ℕ → Status → Outcome
-refused_after taken status = record { status = status; changes = []; text = []; taken = taken }
+use Rattle.committee.specs.Late.{refused_after}
 
 -- the outside: what the shelf holds, the seeds to come, and what the sink was given, where they are told
 pub record World : Type 0 where
@@ -33,12 +30,18 @@ TookUpTo count coming comes = (taken : ℕ) × (taken ≤ count) × Took taken c
 abbrev pub TookAsked : (ℕ → Type 0) → Option (List (List ℕ)) → Option (List (List ℕ)) → Type 0
 TookAsked asks coming comes = (count : ℕ) × asks count × TookUpTo count coming comes
 
+-- exactly so many
+abbrev pub TookAll : (ℕ → Type 0) → Option (List (List ℕ)) → Option (List (List ℕ)) → Type 0
+TookAll asks coming comes = (count : ℕ) × asks count × Took count coming comes
+
 -- What a refusal to make a plan leaves of the seeds to come, by its cause: a refusal is the one that is meant, with so many
--- seeds; a fault of the shelf takes none; a fault of the entropy and want of memory may come when some were taken.
+-- seeds; a fault of the shelf takes none; a fault of the crew comes when all that are asked for were taken; a fault of the
+-- entropy and want of memory may come when some were taken.
 abbrev pub StopsBefore : (Outcome → Type 0) → (ℕ → Type 0) → Option (List (List ℕ)) → Option (List (List ℕ)) → Status → Cause → Type 0
 StopsBefore means asks coming comes status Refusal = (taken : ℕ) × means (refused_after taken status) × Took taken coming comes
 StopsBefore means asks coming comes status Shelf = comes ≡ coming
 StopsBefore means asks coming comes status Entropy = TookAsked asks coming comes
+StopsBefore means asks coming comes status Crew = TookAll asks coming comes
 StopsBefore means asks coming comes status Memory = (comes ≡ coming) ⊎ TookAsked asks coming comes
 StopsBefore means asks coming comes status cause = ⊥
 
@@ -61,14 +64,16 @@ pub record IsUntouched (before after : World) : Type 0 where
 
 -- What was done of what the words mean, by the cause of the answer, where `asks` says of which numbers of seeds they come
 -- to the step that takes them. A refusal does nothing but take the seeds that are meant. Done and each fault of the
--- outside but the entropy's carry out an outcome that is Done, as far as `Carries` says. A fault of the shelf and want of
--- memory may also come before anything is done. A fault of the entropy comes only then, and only where seeds are asked for.
+-- outside but those of the entropy and the crew carry out an outcome that is Done, as far as `Carries` says. A fault of the
+-- shelf and want of memory may also come before anything is done. A fault of the entropy comes only then, and only where
+-- seeds are asked for, and one of the crew only when all of these were taken.
 -- Before anything is done at most the seeds that are asked for were taken, from the front.
 abbrev pub DoesBy : (Outcome → Type 0) → (ℕ → Type 0) → World → World → Status → Cause → Type 0
 DoesBy means asks before after status Done = (o : Outcome) × CarriedOut means before after Done o
 DoesBy means asks before after status Refusal = (taken : ℕ) × means (refused_after taken status) × IsUntouched before after × Took taken before.coming after.coming
 DoesBy means asks before after status Shelf = (after ≡ before) ⊎ ((o : Outcome) × CarriedOut means before after Shelf o)
 DoesBy means asks before after status Entropy = IsUntouched before after × TookAsked asks before.coming after.coming
+DoesBy means asks before after status Crew = IsUntouched before after × TookAll asks before.coming after.coming
 DoesBy means asks before after status Sink = (o : Outcome) × CarriedOut means before after Sink o
 DoesBy means asks before after status Memory =
     (IsUntouched before after × ((after.coming ≡ before.coming) ⊎ TookAsked asks before.coming after.coming))

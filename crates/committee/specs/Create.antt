@@ -17,6 +17,7 @@ use Rattle.keyroom.specs.Outcome.{Outcome, done_with, ThenDo, AreFirst}
 use Rattle.keyroom.specs.Steps.{free_of, ◌and_then◌}
 use Rattle.keyroom.specs.Texts.{create_text}
 use Rattle.committee.specs.Drill.{drill_of}
+use Rattle.committee.specs.Late.{down_after, enough_after, ended}
 use Rattle.committee.specs.Run.{numbered, AreMasks, phase_play}
 use Rattle.committee.specs.Period.{period_changes, up_members}
 use Rattle.committee.specs.Links.{first_link, first_now}
@@ -57,21 +58,25 @@ created_text now masks p = create_text now masks (accepted_count p) (instances p
 abbrev pub create_outcome : Now → List ℕ → Play → Outcome
 create_outcome now masks p = done_with now.n (create_changes now p) (created_text now masks p)
 
--- the masks are ones that the words of the drilled members allow
-abbrev pub AreCreateMasks : ℕ → ℕ → List Order → List (List ℕ) → List ℕ → Type 0
-AreCreateMasks n t orders seeds masks = AreMasks member_ways (create_shape n t) orders (members_on (create_shape n t) (dealt_by t seeds)) masks
+-- the masks are ones that the words of the drilled members allow, where these were cut
+abbrev pub AreCreateMasks : ℕ → ℕ → List Order → List (List ℕ) → (ℕ → ℕ) → List ℕ → Type 0
+AreCreateMasks n t orders seeds cuts masks = AreMasks member_ways (create_shape n t) orders (members_on (create_shape n t) (dealt_by t seeds)) cuts masks
 
--- the play of a create: who is drilled is down
+-- the play of a create: who is drilled or late is down
 abbrev pub play_created : ℕ → ℕ → List Order → List (List ℕ) → List ℕ → Play
-play_created n t orders seeds masks = create_play (create_shape n t) (names orders) orders (dealt_by t seeds) masks
+play_created n t orders seeds masks = create_play (create_shape n t) (down_after (names orders) masks) orders (dealt_by t seeds) masks
+
+-- what a play of a create comes to: the first period of the committee with these members down, where enough are left
+abbrev pub create_end : List ℕ → ℕ → ℕ → List ℕ → Play → Outcome
+create_end name n t masks p = ended n (enough_after n t p.down) (create_outcome (first_now name n t (first_link name n t p.down)) masks p)
 
 -- with the name free and the drill read: there are as many seeds as members, the first of those to come, and the phase is
 -- the play of its run
-abbrev pub Creates : List ℕ → ℕ → ℕ → Option (List (List ℕ)) → List ℕ → List Order → Outcome → Type 0
-Creates name n t coming masks orders outcome =
-    (seeds : List (List ℕ)) × (length seeds ≡ n) × AreFirst seeds coming × AreCreateMasks n t orders seeds masks
-    × (outcome ≡ create_outcome (first_now name n t (first_link name n t (names orders))) masks (play_created n t orders seeds masks))
+abbrev pub Creates : List ℕ → ℕ → ℕ → Option (List (List ℕ)) → (ℕ → ℕ) → List ℕ → List Order → Outcome → Type 0
+Creates name n t coming cuts masks orders outcome =
+    (seeds : List (List ℕ)) × (length seeds ≡ n) × AreFirst seeds coming × AreCreateMasks n t orders seeds cuts masks
+    × (outcome ≡ create_end name n t masks (play_created n t orders seeds masks))
 
 -- the now file must not be held; then the drill is read, the seeds are taken and the phase is run, under these masks
-abbrev pub MeansCreate : List ℕ → ℕ → ℕ → Option (List ℕ) → Held → Option (List (List ℕ)) → List ℕ → Outcome → Type 0
-MeansCreate name n t drill held coming masks = ThenDo (create_asked name (create_shape n t) drill held) (Creates name n t coming masks)
+abbrev pub MeansCreate : List ℕ → ℕ → ℕ → Option (List ℕ) → Held → Option (List (List ℕ)) → (ℕ → ℕ) → List ℕ → Outcome → Type 0
+MeansCreate name n t drill held coming cuts masks = ThenDo (create_asked name (create_shape n t) drill held) (Creates name n t coming cuts masks)

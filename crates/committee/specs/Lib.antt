@@ -1,3 +1,4 @@
+pub mod Late
 pub mod Run
 pub mod Links
 pub mod Period
@@ -6,11 +7,13 @@ pub mod Create
 pub mod Standing
 pub mod Refresh
 pub mod Causes
+pub mod Crews
 pub mod Answer
 pub mod Move
 pub mod Phase
 pub mod MovePhase
 pub mod Meaning
+pub mod Uncut
 pub mod Agreement
 pub mod Plain
 pub mod Recovery

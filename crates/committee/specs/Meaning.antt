@@ -15,10 +15,12 @@ use Rattle.committee.specs.Standing.{Standing, seeds_for}
 use Rattle.committee.specs.Refresh.{refresh_asked, MeansRefresh}
 use Rattle.committee.specs.Move.{move_asked, MeansMove}
 
--- what a command is given: what the shelf holds, and the seeds to come, where they are told
+-- what a command is given: what the shelf holds, the seeds to come, where they are told, and who may have been cut in each
+-- round of its phase
 pub record Given : Type 0 where
   pub held : Held
   pub coming : Option (List (List ℕ))
+  pub cuts : ℕ → ℕ
 
 -- the masks of a phase's rounds, by the masks of all phases; the first has the number 0
 abbrev pub of_phase : List (List ℕ) → ℕ → List ℕ
@@ -26,9 +28,9 @@ of_phase masks phase = get_or masks phase []
 
 -- What a command means under the masks of the rounds of its phases; a command without a phase is the same under all masks.
 abbrev pub MeansCommand : Command → Given → List (List ℕ) → Outcome → Type 0
-MeansCommand (Create name n t drill) given masks = MeansCreate name n t drill given.held given.coming (of_phase masks 0)
-MeansCommand (Refresh name drill) given masks = MeansRefresh name drill given.held given.coming (of_phase masks 0)
-MeansCommand (Move name m u drill) given masks = MeansMove name m u drill given.held given.coming (of_phase masks 0)
+MeansCommand (Create name n t drill) given masks = MeansCreate name n t drill given.held given.coming given.cuts (of_phase masks 0)
+MeansCommand (Refresh name drill) given masks = MeansRefresh name drill given.held given.coming given.cuts (of_phase masks 0)
+MeansCommand (Move name m u drill) given masks = MeansMove name m u drill given.held given.coming given.cuts (of_phase masks 0)
 MeansCommand (Recover name) given masks = MeansRecover name given.held
 MeansCommand (Check name) given masks = MeansCheck name given.held
 MeansCommand (Seal name doc target) given masks = MeansDocument Sealing name doc target given.held
@@ -44,7 +46,7 @@ MeansUnder masks words given outcome =
     (IsUsage words × (outcome ≡ refused Usage))
     ⊎ ((command : Command) × ReadsAs words command × MeansCommand command given masks outcome)
 
--- what the words mean: there are masks under which they mean it. The text of a phase prints them
+-- what the words mean: there are masks under which they mean it. The text of a phase prints them, where it is put out
 abbrev pub Means : List (List ℕ) → Given → Outcome → Type 0
 Means words given outcome = (masks : List (List ℕ)) × MeansUnder masks words given outcome
 
@@ -84,7 +86,11 @@ AreEnoughFor command (Some held) coming = (count : ℕ) → TakesSeeds command h
 abbrev pub AreEnough : List (List ℕ) → Option Held → Option (List (List ℕ)) → Type 0
 AreEnough words held coming = (command : Command) → ReadsAs words command → AreEnoughFor command held coming
 
--- the words are a move that comes to its phase: its steps before it refuse nothing
+-- the words are a command that comes to its phase: its steps before it refuse nothing
+abbrev pub ComeToPhase : List (List ℕ) → Held → Type 0
+ComeToPhase words held = (count : ℕ) × AskForSeeds words held count
+
+-- they are a move that does
 abbrev pub ComeToMove : List (List ℕ) → Held → Type 0
 ComeToMove words held =
     (name : List ℕ) × (m : ℕ) × (u : ℕ) × (drill : Option (List ℕ)) × ReadsAs words (Move name m u drill)

@@ -1,6 +1,6 @@
 -- The meaning of `move NAME M U` and `move NAME M U DRILL`: the key goes to a committee of M members, of whom U may be
 -- faulty.
-use Rattle.std.specs.Prelude.{◌≡◌, ◌⊎◌, ℕ, Bool, List, [], ◌++◌, length, map, replicate, get_or, Option, Some, None, Result}
+use Rattle.std.specs.Prelude.{◌≡◌, ◌⊎◌, ℕ, Bool, List, [], ◌++◌, length, map, replicate, get_or, Option, Some, None, Result, Ok, Err}
 use Rattle.std.specs.List.{filter, range_with_len}
 use Rattle.algebra61.specs.Field.{Fp, zeroₚ, ◌+ₚ◌}
 use Rattle.chance61.specs.Draws.{grids_drawn_with}
@@ -22,8 +22,9 @@ use Rattle.keyroom.specs.declared.status.Status.{Status}
 use Rattle.keyroom.specs.declared.status.Status.TheVariants.{NoWord}
 use Rattle.keyroom.specs.Outcome.{Outcome, done_with, ThenDo, AreFirst}
 use Rattle.keyroom.specs.Sound.{is_down_in_move}
+use Rattle.keyroom.specs.Steps.{◌and_then◌}
 use Rattle.keyroom.specs.Texts.{move_text}
-use Rattle.committee.specs.Answer.{refused_after}
+use Rattle.committee.specs.Late.{down_after, enough_after, refused_after}
 use Rattle.committee.specs.Links.{following_now}
 use Rattle.committee.specs.Period.{next_changes, up_members}
 use Rattle.committee.specs.Run.{numbered, AreMasks, phase_play}
@@ -37,7 +38,8 @@ move_asked name m u = next_asked (λ now. move_shape now.n now.t m u) name
 abbrev pub moving_of : Standing → ℕ → ℕ → Shape
 moving_of st m u = move_shape st.now.n st.now.t m u
 
--- which seats are down: of an old member that is drilled or has no valid share file, and of a new one that is drilled
+-- which seats are down before the phase: of an old member that is drilled or has no valid share file, and of a new one that
+-- is drilled
 abbrev pub down_moving : Standing → ℕ → Bool
 down_moving st = is_down_in_move (names st.orders) st.files
 
@@ -69,14 +71,14 @@ mover_on s seat (Some holding) = In (mover_at s seat holding.grids)
 abbrev pub movers_on : Shape → List (Option Holding) → List (Part Mover)
 movers_on s held = numbered (mover_on s) 1 held
 
--- the masks are ones that the words of the drilled seats allow
-abbrev pub AreMoveMasks : Standing → ℕ → ℕ → List (List ℕ) → List ℕ → Type 0
-AreMoveMasks st m u seeds masks = AreMasks (part_ways mover_ways) (moving_of st m u) st.orders (movers_on (moving_of st m u) (seats_in st m u seeds)) masks
+-- the masks are ones that the words of the seats allow, where these were cut
+abbrev pub AreMoveMasks : Standing → ℕ → ℕ → List (List ℕ) → (ℕ → ℕ) → List ℕ → Type 0
+AreMoveMasks st m u seeds cuts masks = AreMasks (part_ways mover_ways) (moving_of st m u) st.orders (movers_on (moving_of st m u) (seats_in st m u seeds)) cuts masks
 
--- the play of a move
+-- the play of a move: who was down before and who is late is down in it
 abbrev pub play_moved : Standing → ℕ → ℕ → List (List ℕ) → List ℕ → Play
 play_moved st m u seeds masks =
-    phase_play (part_ways mover_ways) (moving_of st m u) (down_moving st) (λ seat. (held_on (seats_in st m u seeds) seat).grids)
+    phase_play (part_ways mover_ways) (moving_of st m u) (down_after (down_moving st) masks) (λ seat. (held_on (seats_in st m u seeds) seat).grids)
     st.orders (movers_on (moving_of st m u) (seats_in st m u seeds)) masks
 
 -- ---- the end
@@ -109,20 +111,34 @@ moved_text st m u masks p errors =
 abbrev pub move_outcome : Standing → ℕ → ℕ → List ℕ → Play → List (List Fp) → Outcome
 move_outcome st m u masks p errors = done_with (seeds_for st) (move_changes st m u p errors) (moved_text st m u masks p errors)
 
--- What a play of a move comes to. Where each lane has its error vector the move is done; where it has no result it is
--- refused, with the least lane that has none and what was opened there. Then the seeds are taken and nothing has changed.
-abbrev pub EndsMove : Standing → ℕ → ℕ → List ℕ → Play → Outcome → Type 0
-EndsMove st m u masks p outcome =
+-- step: in a play enough of the old members must not be down, and enough of the new ones
+abbrev pub enough_moved : Standing → ℕ → ℕ → Play → Result ℕ Status
+enough_moved st m u p = enough_after st.now.n st.now.t p.down and_then λ old. enough_after m u (new_down p)
+
+-- What is opened in a play. Where each lane has its error vector the move is done; where it has no result it is refused,
+-- with the least lane that has none and what was opened there.
+abbrev pub EndsOpened : Standing → ℕ → ℕ → List ℕ → Play → Outcome → Type 0
+EndsOpened st m u masks p outcome =
     ((errors : List (List Fp)) × HaveErrors p.shape (syndromes_heard p) errors × (outcome ≡ move_outcome st m u masks p errors))
     ⊎ ((lane : ℕ) × (syndrome : List Fp) × MoveHasNoResult p.shape (syndromes_heard p) lane syndrome × (outcome ≡ refused_after (seeds_for st) (NoWord lane syndrome)))
 
+-- A step behind a phase that took so many seeds: what follows is told of its value, and a refusal is the end.
+abbrev pub ThenAfter : {A : Type 0} → ℕ → Result A Status → (A → Outcome → Type 0) → Outcome → Type 0
+ThenAfter taken (Ok x) next outcome = next x outcome
+ThenAfter taken (Err status) next outcome = outcome ≡ refused_after taken status
+
+-- What a play of a move comes to: a refusal where too few members are left, else what is opened. By a refusal the seeds are
+-- taken and nothing has changed.
+abbrev pub EndsMove : Standing → ℕ → ℕ → List ℕ → Play → Outcome → Type 0
+EndsMove st m u masks p = ThenAfter (seeds_for st) (enough_moved st m u p) (λ enough. EndsOpened st m u masks p)
+
 -- with all that known: there is a seed for each valid share file, by index, the first of those to come, and the phase is
 -- the play of its run
-abbrev pub Moves : ℕ → ℕ → Option (List (List ℕ)) → List ℕ → Standing → Outcome → Type 0
-Moves m u coming masks st outcome =
-    (seeds : List (List ℕ)) × (length seeds ≡ seeds_for st) × AreFirst seeds coming × AreMoveMasks st m u seeds masks
+abbrev pub Moves : ℕ → ℕ → Option (List (List ℕ)) → (ℕ → ℕ) → List ℕ → Standing → Outcome → Type 0
+Moves m u coming cuts masks st outcome =
+    (seeds : List (List ℕ)) × (length seeds ≡ seeds_for st) × AreFirst seeds coming × AreMoveMasks st m u seeds cuts masks
     × EndsMove st m u masks (play_moved st m u seeds masks) outcome
 
--- the steps, then the seeds are taken and the phase is run, under these masks
-abbrev pub MeansMove : List ℕ → ℕ → ℕ → Option (List ℕ) → Held → Option (List (List ℕ)) → List ℕ → Outcome → Type 0
-MeansMove name m u drill held coming masks = ThenDo (move_asked name m u drill held) (Moves m u coming masks)
+-- the steps, then the seeds are taken and the phase is run, under these cuts and masks
+abbrev pub MeansMove : List ℕ → ℕ → ℕ → Option (List ℕ) → Held → Option (List (List ℕ)) → (ℕ → ℕ) → List ℕ → Outcome → Type 0
+MeansMove name m u drill held coming cuts masks = ThenDo (move_asked name m u drill held) (Moves m u coming cuts masks)

@@ -1,4 +1,4 @@
--- What the phase of a move on one thread leaves, read off the minds. It is of private functions alone.
+-- What the phase of a move leaves, read off the minds. It is of private functions alone.
 use Rattle.std.specs.Prelude.{◌≡◌, ℕ, ◌+◌, ◌≤◌, Bool, true, false, List, [], ◌∷◌, ◌++◌, length, map, Option, Some, None, Result, Ok, Err}
 use Rattle.std.specs.List.{range_with_len, filter}
 use Rattle.algebra61.specs.Field.{Fp}
@@ -21,11 +21,12 @@ use Rattle.keyroom.specs.declared.status.Status.{Status}
 use Rattle.keyroom.specs.declared.status.Status.TheVariants as status
 use Rattle.keyroom.specs.Causes.{Refusal, cause_of}
 use Rattle.keyroom.specs.Changes.{outcome_of}
-use Rattle.committee.specs.Answer.{refused_after}
-use Rattle.committee.specs.Move.{mover_on, AreMoveMasks, play_moved, new_down, down_moving, EndsMove}
-use Rattle.committee.specs.Phase.{IsReady}
+use Rattle.committee.specs.Late.{enough_after, refused_after}
+use Rattle.committee.specs.Move.{mover_on, AreMoveMasks, play_moved, new_down, enough_moved, EndsMove}
+use Rattle.committee.specs.Phase.{IsReady, marks_of}
 use Rattle.committee.specs.Run.{numbered}
 use Rattle.committee.specs.Standing.{Standing, Holding, seeds_for}
+use Rattle.keyroom.specs.Steps.{◌and_then◌}
 use Rattle.committee.specs.declared.moving_phase.Moved.{Moved}
 
 -- the key may go to a committee of m members of whom u may be faulty: not more than these are drilled there
@@ -34,10 +35,6 @@ pub record MayMove (st : Standing) (m u : ℕ) : Type 0 where
   pub size : is_size m ≡ true
   pub bound : is_bound m u ≡ true
   pub few : named_among st.orders st.now.n m ≤ u
-
--- which of the new members are down
-abbrev pub down_new : Standing → ℕ → Bool
-down_new st j = down_moving st (length st.files + j)
 
 -- ---- the minds
 module _ {N M : ℕ} where
@@ -88,12 +85,25 @@ abbrev pub AreOuts : Play → ℕ → List (Option MoveOut) → Type 0
 AreOuts p member [] = Unit {0}
 AreOuts p member (out ∷ outs) = OutIs (new_down p member) (DefinesOut p member) out × AreOuts p (member + 1) outs
 
--- the phase leaves what a play of its run defines
-pub record IsMovePhase (st : Standing) (m u : ℕ) (seeds : List (List ℕ)) (moved : Moved) : Type 0 where
-  pub masks : AreMoveMasks st m u seeds moved.masks
+-- the steps behind the phase, where `down` says which seats are down: enough of the members 1 to n must not be, and enough of
+-- the m behind them
+abbrev pub both_enough : ℕ → ℕ → ℕ → ℕ → (ℕ → Bool) → Result ℕ Status
+both_enough n t m u down = enough_after n t down and_then λ old. enough_after m u (λ j. down (n + j))
+
+-- the phase leaves what a play of its run defines, with enough members of both committees
+pub record IsMovePhase (st : Standing) (m u : ℕ) (seeds : List (List ℕ)) (cuts : ℕ → ℕ) (moved : Moved) : Type 0 where
+  pub masks : AreMoveMasks st m u seeds cuts moved.masks
+  pub left : ℕ
+  pub enough : enough_moved st m u (play_moved st m u seeds moved.masks) ≡ Ok left
+  pub down : moved.down.items ≡ marks_of (new_down (play_moved st m u seeds moved.masks)) m
   pub accepted : moved.accepted ≡ accepted_count (play_moved st m u seeds moved.masks)
   pub all : length moved.outs.items ≡ m
   pub outs : AreOuts (play_moved st m u seeds moved.masks) 1 moved.outs.items
+
+-- or it refuses, by what it was given or with too few members
+abbrev pub RefusesPhase : Standing → ℕ → ℕ → List (List ℕ) → (ℕ → ℕ) → Status → Type 0
+RefusesPhase st m u seeds cuts status =
+    cause_of status ≡ Refusal → (masks : List ℕ) × AreMoveMasks st m u seeds cuts masks × (enough_moved st m u (play_moved st m u seeds masks) ≡ Err status)
 
 -- the shares that a member comes to, if any
 abbrev pub shares_at : Option MoveOut → Option (List Fp)
@@ -126,8 +136,8 @@ abbrev pub members_in : ℕ → ℕ → List ℕ
 members_in mask n = filter (has mask) (range_with_len 1 n)
 
 -- ---- the plan, with these seeds, under masks that the phase allows; or a refusal
-abbrev pub PlansMove : Standing → ℕ → ℕ → List (List ℕ) → Result Plan Status → Type 0
-PlansMove st m u seeds (Ok plan) =
-    (masks : List ℕ) × AreMoveMasks st m u seeds masks × EndsMove st m u masks (play_moved st m u seeds masks) (outcome_of (seeds_for st) plan)
-PlansMove st m u seeds (Err status) =
-    cause_of status ≡ Refusal → (masks : List ℕ) × AreMoveMasks st m u seeds masks × EndsMove st m u masks (play_moved st m u seeds masks) (refused_after (seeds_for st) status)
+abbrev pub PlansMove : Standing → ℕ → ℕ → List (List ℕ) → (ℕ → ℕ) → Result Plan Status → Type 0
+PlansMove st m u seeds cuts (Ok plan) =
+    (masks : List ℕ) × AreMoveMasks st m u seeds cuts masks × EndsMove st m u masks (play_moved st m u seeds masks) (outcome_of (seeds_for st) plan)
+PlansMove st m u seeds cuts (Err status) =
+    cause_of status ≡ Refusal → (masks : List ℕ) × AreMoveMasks st m u seeds cuts masks × EndsMove st m u masks (play_moved st m u seeds masks) (refused_after (seeds_for st) status)

@@ -1,10 +1,10 @@
--- What a phase on one thread leaves, read off the members' minds.
-use Rattle.std.specs.Prelude.{◌≡◌, ℕ, ◌+◌, ◌-◌, ◌<◌, ◌≤◌, Bool, true, false, cond, List, [], ◌∷◌, ◌++◌, length, map, get_or, Option, Some, None}
+-- What a phase leaves, read off the members' minds.
+use Rattle.std.specs.Prelude.{◌≡◌, ℕ, ◌+◌, ◌-◌, ◌<◌, ◌≤◌, Bool, true, false, cond, List, [], ◌∷◌, ◌++◌, length, map, get_or, Option, Some, None, Result, Ok, Err}
 use Rattle.std.specs.List.{range_with_len}
 use Rattle.algebra61.specs.Field.{Fp}
 use Rattle.sharing61.specs.Count.{how_many}
 use Rattle.talk.specs.Shape.{Shape, rounds}
-use Rattle.talk.specs.Sync.{Ways, AllAllowed, all_seats, nobody, sync}
+use Rattle.talk.specs.Sync.{Ways, AllAllowed, all_seats, sync}
 use Rattle.plays.specs.Play.{Play}
 use Rattle.members.specs.Shares.{accepted_count}
 use Rattle.drillbook.specs.declared.order.Order.{Order}
@@ -13,11 +13,15 @@ use Rattle.shelf.specs.Held.{Change, Put}
 use Rattle.sharefile.specs.Files.{Now, IsNow, now_bytes}
 use Rattle.keyroom.specs.Names.{now_name}
 use Rattle.committee.specs.Period.{removals, put_with}
-use Rattle.committee.specs.Create.{AreCreateMasks, play_created, created_shares}
+use Rattle.committee.specs.Create.{AreCreateMasks, play_created, created_shares, create_end}
 use Rattle.keyroom.specs.declared.plan.Plan.{Plan}
+use Rattle.keyroom.specs.declared.status.Status.{Status}
+use Rattle.keyroom.specs.Causes.{Refusal, cause_of}
+use Rattle.keyroom.specs.Outcome.{Outcome}
 use Rattle.keyroom.specs.Changes.{outcome_of}
-use Rattle.committee.specs.Standing.{Standing, down_in, seeds_for}
-use Rattle.committee.specs.Refresh.{AreRefreshMasks, play_refreshed, new_shares, refresh_outcome}
+use Rattle.committee.specs.Late.{down_after, refused_after}
+use Rattle.committee.specs.Standing.{Standing, down_in}
+use Rattle.committee.specs.Refresh.{AreRefreshMasks, play_refreshed, new_shares, refresh_end}
 use Rattle.committee.specs.declared.standing.Asked.{Asked}
 use Rattle.committee.specs.declared.phase.Phase.{Phase}
 
@@ -54,28 +58,32 @@ module _ {M : Type 0} where
   accepted_first accepted down seat [] = 0
   accepted_first accepted down seat (m ∷ ms) = cond (down seat) (accepted_first accepted down (seat + 1) ms) (accepted m.inner)
 
-  -- whatever masks their words allow, the minds on the seats that aren't down are done after the run
+  -- whatever the masks are, the minds on the seats that aren't down under them are done after the run
   abbrev pub EndDone : Ways M → (M → Type 0) → Shape → (ℕ → Bool) → List (DrilledMind M) → Type 0
-  EndDone ways done s down minds =
-      (masks : List ℕ) → length masks ≡ rounds s → AllAllowed (drilled_ways ways) s 1 (all_seats s) nobody masks minds →
-      AllDone done down 1 (sync (drilled_ways ways) s 1 masks minds)
+  EndDone ways done s before minds =
+      (masks : List ℕ) → length masks ≡ rounds s →
+      AllDone done (down_after before masks) 1 (sync (drilled_ways ways) s 1 masks minds)
 
-  -- the masks are ones that the minds' words allow, and the rest is read off the minds after the run under these masks
-  pub record IsReadOff (ways : Ways M) (lanes : M → List Fp) (count : M → ℕ) (s : Shape) (down : ℕ → Bool) (minds : List (DrilledMind M)) (phase : Phase) : Type 0 where
+  -- The masks are ones that the minds' words allow, where these were cut. The marks are those of who is down under them, and
+  -- the rest is read off the minds after the run.
+  pub record IsReadOff (ways : Ways M) (lanes : M → List Fp) (count : M → ℕ) (s : Shape) (before : ℕ → Bool) (cuts : ℕ → ℕ) (minds : List (DrilledMind M)) (phase : Phase) : Type 0 where
     pub all : length phase.masks ≡ rounds s
-    pub allowed : AllAllowed (drilled_ways ways) s 1 (all_seats s) nobody phase.masks minds
-    pub accepted : phase.accepted ≡ accepted_first count down 1 (sync (drilled_ways ways) s 1 phase.masks minds)
-    pub shares : phase.shares.items ≡ shares_in lanes down 1 (sync (drilled_ways ways) s 1 phase.masks minds)
+    pub allowed : AllAllowed (drilled_ways ways) s 1 (all_seats s) cuts phase.masks minds
+    pub down : phase.down.items ≡ marks_of (down_after before phase.masks) (length minds)
+    pub accepted : phase.accepted ≡ accepted_first count (marked phase.down.items) 1 (sync (drilled_ways ways) s 1 phase.masks minds)
+    pub shares : phase.shares.items ≡ shares_in lanes (marked phase.down.items) 1 (sync (drilled_ways ways) s 1 phase.masks minds)
 
--- the accepted instances are those of a play, and each of the members 1 to n that isn't down in it has these shares
+-- The marks are those of who is down in a play, and each of the members 1 to n that isn't has these shares. The accepted
+-- instances are those of the play, where there is such a member.
 pub record IsPhase (n : ℕ) (p : Play) (lanes : ℕ → List Fp) (phase : Phase) : Type 0 where
-  pub accepted : phase.accepted ≡ accepted_count p
+  pub down : phase.down.items ≡ marks_of p.down n
+  pub accepted : how_many n p.down < n → phase.accepted ≡ accepted_count p
   pub shares : phase.shares.items ≡ shares_given p.down lanes n
 
 -- the phase of a create
-abbrev pub IsCreatePhase : ℕ → ℕ → List Order → List (List ℕ) → Phase → Type 0
-IsCreatePhase n t orders seeds phase =
-    AreCreateMasks n t orders seeds phase.masks
+abbrev pub IsCreatePhase : ℕ → ℕ → List Order → List (List ℕ) → (ℕ → ℕ) → Phase → Type 0
+IsCreatePhase n t orders seeds cuts phase =
+    AreCreateMasks n t orders seeds cuts phase.masks
     × IsPhase n (play_created n t orders seeds phase.masks) (created_shares (play_created n t orders seeds phase.masks)) phase
 
 -- what a refresh or a move finds, as the code has it
@@ -90,15 +98,25 @@ pub record IsReady (st : Standing) : Type 0 where
   pub next : st.now.period < 4294967295
 
 -- the phase of a refresh
-abbrev pub IsRefreshPhase : Standing → List (List ℕ) → Phase → Type 0
-IsRefreshPhase st seeds phase =
-    AreRefreshMasks st seeds phase.masks
+abbrev pub IsRefreshPhase : Standing → List (List ℕ) → (ℕ → ℕ) → Phase → Type 0
+IsRefreshPhase st seeds cuts phase =
+    AreRefreshMasks st seeds cuts phase.masks
     × IsPhase st.now.n (play_refreshed st seeds phase.masks) (new_shares st seeds (play_refreshed st seeds phase.masks)) phase
 
--- the plan of a refresh with these seeds, under masks that the phase allows
-abbrev pub IsRefreshPlan : Standing → List (List ℕ) → Plan → Type 0
-IsRefreshPlan st seeds plan =
-    (masks : List ℕ) × AreRefreshMasks st seeds masks × (outcome_of (seeds_for st) plan ≡ refresh_outcome st seeds masks (play_refreshed st seeds masks))
+-- a plan, or a refusal by what the phase left, is among what is meant, with so many seeds
+abbrev pub PlansAfter : (Outcome → Type 0) → ℕ → Result Plan Status → Type 0
+PlansAfter means taken (Ok plan) = means (outcome_of taken plan)
+PlansAfter means taken (Err status) = cause_of status ≡ Refusal → means (refused_after taken status)
+
+-- what a create comes to with these seeds, under masks that the phase allows
+abbrev pub CreateEnds : List ℕ → ℕ → ℕ → List Order → List (List ℕ) → (ℕ → ℕ) → Outcome → Type 0
+CreateEnds name n t orders seeds cuts outcome =
+    (masks : List ℕ) × AreCreateMasks n t orders seeds cuts masks × (outcome ≡ create_end name n t masks (play_created n t orders seeds masks))
+
+-- the same of a refresh
+abbrev pub RefreshEnds : Standing → List (List ℕ) → (ℕ → ℕ) → Outcome → Type 0
+RefreshEnds st seeds cuts outcome =
+    (masks : List ℕ) × AreRefreshMasks st seeds cuts masks × (outcome ≡ refresh_end st seeds masks (play_refreshed st seeds masks))
 
 -- what f makes of each value that is there, given with its index, from `index` on
 abbrev pub each_given : {A B : Type 0} → (ℕ → A → B) → ℕ → List (Option A) → List B

@@ -14,6 +14,7 @@ use Rattle.shelf.specs.Held.{Held, Change}
 use Rattle.keyroom.specs.declared.status.Status.{Status}
 use Rattle.keyroom.specs.Outcome.{Outcome, done_with, ThenDo, AreFirst}
 use Rattle.keyroom.specs.Texts.{refresh_text}
+use Rattle.committee.specs.Late.{down_after, enough_after, ended}
 use Rattle.committee.specs.Links.{next_now}
 use Rattle.committee.specs.Period.{next_changes, up_members}
 use Rattle.committee.specs.Run.{numbered, AreMasks, phase_play}
@@ -44,14 +45,14 @@ keeper_on s seat (Some holding) = In (keeper_at s seat holding.grids holding.old
 abbrev pub keepers_on : Shape → List (Option Holding) → List (Part Keeper)
 keepers_on s held = numbered (keeper_on s) 1 held
 
--- the masks are ones that the words of the drilled members allow
-abbrev pub AreRefreshMasks : Standing → List (List ℕ) → List ℕ → Type 0
-AreRefreshMasks st seeds masks = AreMasks (part_ways keeper_ways) (setting_of st) st.orders (keepers_on (setting_of st) (holdings_in st seeds)) masks
+-- the masks are ones that the words of the drilled members allow, where these were cut
+abbrev pub AreRefreshMasks : Standing → List (List ℕ) → (ℕ → ℕ) → List ℕ → Type 0
+AreRefreshMasks st seeds cuts masks = AreMasks (part_ways keeper_ways) (setting_of st) st.orders (keepers_on (setting_of st) (holdings_in st seeds)) cuts masks
 
--- the play of a refresh
+-- the play of a refresh: who is drilled, has no valid share file or is late is down
 abbrev pub play_refreshed : Standing → List (List ℕ) → List ℕ → Play
 play_refreshed st seeds masks =
-    phase_play (part_ways keeper_ways) (setting_of st) (down_in st) (λ seat. (held_on (holdings_in st seeds) seat).grids)
+    phase_play (part_ways keeper_ways) (setting_of st) (down_after (down_in st) masks) (λ seat. (held_on (holdings_in st seeds) seat).grids)
     st.orders (keepers_on (setting_of st) (holdings_in st seeds)) masks
 
 -- the shares of member j before
@@ -73,13 +74,17 @@ refreshed_text st masks p = refresh_text (next_now st.now p.down) masks (accepte
 abbrev pub refresh_outcome : Standing → List (List ℕ) → List ℕ → Play → Outcome
 refresh_outcome st seeds masks p = done_with (seeds_for st) (refresh_changes st seeds p) (refreshed_text st masks p)
 
+-- what a play of a refresh comes to: the next period of the committee, where enough members are left
+abbrev pub refresh_end : Standing → List (List ℕ) → List ℕ → Play → Outcome
+refresh_end st seeds masks p = ended (seeds_for st) (enough_after st.now.n st.now.t p.down) (refresh_outcome st seeds masks p)
+
 -- with all that known: there is a seed for each valid share file, by index, the first of those to come, and the phase is
 -- the play of its run
-abbrev pub Refreshes : Option (List (List ℕ)) → List ℕ → Standing → Outcome → Type 0
-Refreshes coming masks st outcome =
-    (seeds : List (List ℕ)) × (length seeds ≡ seeds_for st) × AreFirst seeds coming × AreRefreshMasks st seeds masks
-    × (outcome ≡ refresh_outcome st seeds masks (play_refreshed st seeds masks))
+abbrev pub Refreshes : Option (List (List ℕ)) → (ℕ → ℕ) → List ℕ → Standing → Outcome → Type 0
+Refreshes coming cuts masks st outcome =
+    (seeds : List (List ℕ)) × (length seeds ≡ seeds_for st) × AreFirst seeds coming × AreRefreshMasks st seeds cuts masks
+    × (outcome ≡ refresh_end st seeds masks (play_refreshed st seeds masks))
 
 -- the steps, then the seeds are taken and the phase is run, under these masks
-abbrev pub MeansRefresh : List ℕ → Option (List ℕ) → Held → Option (List (List ℕ)) → List ℕ → Outcome → Type 0
-MeansRefresh name drill held coming masks = ThenDo (refresh_asked name drill held) (Refreshes coming masks)
+abbrev pub MeansRefresh : List ℕ → Option (List ℕ) → Held → Option (List (List ℕ)) → (ℕ → ℕ) → List ℕ → Outcome → Type 0
+MeansRefresh name drill held coming cuts masks = ThenDo (refresh_asked name drill held) (Refreshes coming cuts masks)

@@ -3,7 +3,7 @@ use Rattle.std.specs.Prelude.{◌≡◌, ℕ, ◌+◌, Bool, List, [], ◌∷◌
 use Rattle.algebra61.specs.Field.{Fp}
 use Rattle.talk.specs.declared.messages.Say.TheVariants.{Pass}
 use Rattle.talk.specs.Shape.{Shape, rounds}
-use Rattle.talk.specs.Sync.{Ways, AllAllowed, all_seats, nobody}
+use Rattle.talk.specs.Sync.{Ways, AllAllowed, all_seats}
 use Rattle.plays.specs.Play.{Play}
 use Rattle.plays.specs.Run.{play_of}
 use Rattle.plays.specs.Transcript.{Transcript, transcript_of}
@@ -24,10 +24,10 @@ module _ {M : Type 0} where
   abbrev pub drilled_all : Shape → List Order → List M → List (DrilledMind M)
   drilled_all s orders minds = numbered (drilled_on s orders) 1 minds
 
-  -- the masks are ones that the words of the drilled minds allow
-  abbrev pub AreMasks : Ways M → Shape → List Order → List M → List ℕ → Type 0
-  AreMasks ways s orders minds masks =
-      (length masks ≡ rounds s) × AllAllowed (drilled_ways ways) s 1 (all_seats s) nobody masks (drilled_all s orders minds)
+  -- the masks are ones that the words of the drilled minds allow, where the seats of `cuts round` were cut in that round
+  abbrev pub AreMasks : Ways M → Shape → List Order → List M → (ℕ → ℕ) → List ℕ → Type 0
+  AreMasks ways s orders minds cuts masks =
+      (length masks ≡ rounds s) × AllAllowed (drilled_ways ways) s 1 (all_seats s) cuts masks (drilled_all s orders minds)
 
   -- their synchronous run under these masks
   abbrev pub phase_run : Ways M → Shape → List Order → List M → List ℕ → Transcript

@@ -1,12 +1,14 @@
 //! The phase of a create.
-ghost use Rattle.std.specs.Prelude.{◌≡◌, ◌≤◌, ◌<◌, ◌*◌, length, IfOk, IsTrue};
+ghost use Rattle.std.specs.Prelude.{◌≡◌, ◌≤◌, ◌<◌, ◌*◌, ◌+◌, ◌-◌, ◌^◌, length, min, IfOk, IfErr, IsTrue};
 ghost use Rattle.sizes.specs.Committees.{IsCommittee, is_size, is_bound};
 ghost use Rattle.chance61.specs.Draws.{grids_drawn};
 ghost use Rattle.members.specs.Member.{member_at};
 ghost use Rattle.members.specs.Shares.{IsDone, accepted_in, member_shares};
 ghost use Rattle.talk.specs.Shape.{create_shape};
 ghost use Rattle.drillbook.specs.Orders.{names, AllLawful};
-ghost use Rattle.drillbook.specs.Text.{named_among};
+ghost use Rattle.committee.specs.Causes.{IsFromCrew};
+ghost use Rattle.committee.specs.Crews.{Lent};
+ghost use Rattle.committee.specs.Late.{cuts_since};
 ghost use Rattle.committee.specs.Create.{dealt_by, members_on};
 ghost use Rattle.committee.specs.Phase.{marks_of, IsCreatePhase};
 ghost use Rattle.committee.specs.Run.{drilled_on, drilled_all};
@@ -16,9 +18,13 @@ use chance61::Chance;
 use drillbook::{Drill, Drilled};
 use field61::Fe;
 use jointkey::Create;
+use keyroom::Status;
 use lists::OutOfMemory;
+use party_crew::{Crew, Pace};
 use sizes::Committee;
 use std::alloc::Global;
+use std::sync::Wait;
+use std::thread::Threads;
 use talk::Setting;
 
 impl<const N: usize> Party for Create<N> {
@@ -78,50 +84,60 @@ fn minds_of<const N: usize>(
     Ok(minds)
 }
 
-/// The phase among N members, of whom at most as many as the bound are drilled.
-fn phase_among<const N: usize>(
+/// The phase among N members, of whom the drilled ones are marked.
+fn phase_among<C: Crew, Q: Pace + Send, R: Threads + Wait + Sync, const N: usize>(
+    rt: &R,
     alloc: Global,
     bound: u32,
     drill: &Drill,
-    down: &[bool],
+    drilled: &[bool],
     seeds: &[[u8; 32]],
-) -> Result<Phase, OutOfMemory>
+    crew: &mut C,
+    pace: &mut Q,
+) -> Result<Phase, Status>
     requires committee { IsCommittee N bound }
     requires lines { AllLawful (create_shape N bound) drill.now }
-    requires few { named_among drill.now 0 N ≤ bound }
-    requires down { down.now ≡ marks_of (names drill.now) N }
+    requires drilled { drilled.now ≡ marks_of (names drill.now) N }
     requires seeds { length seeds.now ≡ N }
-    ensures { IfOk result (IsCreatePhase N bound drill.now seeds.now) }
+    ensures left { IfOk result (IsCreatePhase N bound drill.now seeds.now (cuts_since (Q.answered_count pace.old) (Q.answered_count pace.new) (Q.cuts_of pace.new))) }
+    ensures lent { Lent C.fault_count C.attended_count C.calm crew.old crew.new }
+    ensures attended { IfOk result (λ _. C.attended_count crew.new ≡ min (C.attended_count crew.old + N) (2 ^ 64 - 1)) }
+    ensures cause { IfErr result (IsFromCrew (C.fault_count crew.old) (C.fault_count crew.new)) }
 {
     let setting = Setting::create(N as u32, bound);
     let minds = minds_of::<N>(alloc, bound, drill, seeds)?;
-    let phase = phase_of(alloc, minds, down, &setting)?;
+    let phase = phase_of::<Create<N>, C, Q, R, N>(rt, alloc, minds, drilled, &setting, crew, pace)?;
     Ok(phase)
 }
 
-/// The phase of a create among the members of a committee that the program has, with a seed for each. At most as
-/// many as its bound are drilled: these are down. The error is want of memory.
-pub(crate) fn run_create(
+/// The phase of a create among the members of a committee that the program has, with a seed for each; the drilled ones are
+/// marked. It refuses as `phase_of` does.
+pub(crate) fn run_create<C: Crew, Q: Pace + Send, R: Threads + Wait + Sync>(
+    rt: &R,
     alloc: Global,
     committee: Committee,
     drill: &Drill,
-    down: &[bool],
+    drilled: &[bool],
     seeds: &[[u8; 32]],
-) -> Result<Phase, OutOfMemory>
+    crew: &mut C,
+    pace: &mut Q,
+) -> Result<Phase, Status>
     requires size { IsTrue (is_size committee.members) }
     requires bound { IsTrue (is_bound committee.members committee.bound) }
     requires lines { AllLawful (create_shape committee.members committee.bound) drill.now }
-    requires few { named_among drill.now 0 committee.members ≤ committee.bound }
-    requires down { down.now ≡ marks_of (names drill.now) committee.members }
+    requires drilled { drilled.now ≡ marks_of (names drill.now) committee.members }
     requires seeds { length seeds.now ≡ committee.members }
-    ensures { IfOk result (IsCreatePhase committee.members committee.bound drill.now seeds.now) }
+    ensures left { IfOk result (IsCreatePhase committee.members committee.bound drill.now seeds.now (cuts_since (Q.answered_count pace.old) (Q.answered_count pace.new) (Q.cuts_of pace.new))) }
+    ensures lent { Lent C.fault_count C.attended_count C.calm crew.old crew.new }
+    ensures attended { IfOk result (λ _. C.attended_count crew.new ≡ min (C.attended_count crew.old + committee.members) (2 ^ 64 - 1)) }
+    ensures cause { IfErr result (IsFromCrew (C.fault_count crew.old) (C.fault_count crew.new)) }
 {
     let bound = committee.bound;
     match committee.members {
-        4 => phase_among::<4>(alloc, bound, drill, down, seeds),
-        5 => phase_among::<5>(alloc, bound, drill, down, seeds),
-        7 => phase_among::<7>(alloc, bound, drill, down, seeds),
-        10 => phase_among::<10>(alloc, bound, drill, down, seeds),
-        _ => phase_among::<13>(alloc, bound, drill, down, seeds),
+        4 => phase_among::<C, Q, R, 4>(rt, alloc, bound, drill, drilled, seeds, crew, pace),
+        5 => phase_among::<C, Q, R, 5>(rt, alloc, bound, drill, drilled, seeds, crew, pace),
+        7 => phase_among::<C, Q, R, 7>(rt, alloc, bound, drill, drilled, seeds, crew, pace),
+        10 => phase_among::<C, Q, R, 10>(rt, alloc, bound, drill, drilled, seeds, crew, pace),
+        _ => phase_among::<C, Q, R, 13>(rt, alloc, bound, drill, drilled, seeds, crew, pace),
     }
 }

@@ -48,8 +48,9 @@ pub(crate) fn down_marks(
     Ok(marks)
 }
 
-/// Who of the new members 1 to `count` of a move, who sit behind the old ones, whose files these are, is drilled.
-pub(crate) fn new_marks(
+/// Which of the seats of a move to `count` members are down before its phase: those of the old members, whose files these are
+/// and who sit on the first seats, that are drilled or have no valid share file, and those of the new ones that are drilled.
+pub(crate) fn moving_marks(
     alloc: Global,
     files: &[Found],
     drill: &Drill,
@@ -57,12 +58,12 @@ pub(crate) fn new_marks(
 ) -> Result<Vec<bool>, OutOfMemory>
     requires old { length files.now ≤ 15 }
     requires new { count ≤ 15 }
-    ensures { IfOk result (λ marks. marks.items ≡ marks_of (λ j. is_down_in_move (names drill.now) files.now (length files.now + j)) count) }
+    ensures { IfOk result (λ marks. marks.items ≡ marks_of (is_down_in_move (names drill.now) files.now) (length files.now + count)) }
 {
     let mut marks = Vec::new(alloc);
-    let shift = files.len() as u32;
-    for member in 1..count + 1 {
-        marks.push(is_down_in_move(files, drill, shift + member))?;
+    let seats = files.len() as u32 + count;
+    for seat in 1..seats + 1 {
+        marks.push(is_down_in_move(files, drill, seat))?;
     }
     Ok(marks)
 }

@@ -1,5 +1,5 @@
 //! The command `move NAME M U`, with or without a drill.
-ghost use Rattle.std.specs.Prelude.{◌≡◌, ◌≤◌, ◌+◌, ℕ, List, length, map, string_bytes, IsTrue, IfOk, IfSome, IfErr};
+ghost use Rattle.std.specs.Prelude.{◌≡◌, ◌≤◌, ◌+◌, ◌-◌, ◌^◌, ℕ, List, length, map, min, string_bytes, IsTrue, IfOk, IfSome, IfErr};
 ghost use Rattle.shelf.specs.Causes.{OnlyReads};
 ghost use Rattle.sizes.specs.Committees.{is_size, is_bound};
 ghost use Rattle.drillbook.specs.Orders.{AllLawful};
@@ -9,7 +9,9 @@ ghost use Rattle.keyroom.specs.Commands.{text_of};
 ghost use Rattle.keyroom.specs.Texts.{move_text};
 ghost use Rattle.keyroom.specs.Words.{Move};
 ghost use Rattle.committee.specs.Answer.{PlansWith};
-ghost use Rattle.committee.specs.Causes.{before_text, IsFromCommand, IsFromWork, IsFromSeeds};
+ghost use Rattle.committee.specs.Causes.{before_text, IsFromCommand, IsFromWork, IsFromPhase, IsFromSeeds};
+ghost use Rattle.committee.specs.Crews.{Lent, AllAttended};
+ghost use Rattle.committee.specs.Late.{cuts_since};
 ghost use Rattle.committee.specs.Move.{move_asked, moving_of, Moves};
 ghost use Rattle.committee.specs.MovePhase.{MayMove, shares_at, AreOpened, first_end, members_in, PlansMove};
 ghost use Rattle.committee.specs.Standing.{seeds_for};
@@ -18,7 +20,7 @@ ghost use Rattle.committee.specs.Meaning.{MeansSome, TakesSeeds, AreEnoughFor};
 ghost use Rattle.committee.specs.Phase.{indexes_of, standing_of};
 
 use crate::changes::{indexes_of, next_changes};
-use crate::down::new_marks;
+use crate::down::moving_marks;
 use crate::holders::following_now;
 use crate::moving_phase::{Moved, run_move};
 use crate::seeds::seeds_of;
@@ -27,10 +29,13 @@ use field61::{Fe, NumberList};
 use keyroom::{Plan, Status, move_text, now_of};
 use lists::{OutOfMemory, TryCopy};
 use moveshare::MoveOut;
+use party_crew::{Crew, Pace};
 use sharefile::{KeyName, NowFile};
 use shelf::{Entropy, Shelf};
 use sizes::Committee;
 use std::alloc::Global;
+use std::sync::Wait;
+use std::thread::Threads;
 use talk::{Setting, in_mask};
 
 /// What a move finds on the shelf. It refuses as `now_of` and `standing_at` do.
@@ -139,23 +144,28 @@ fn moved_text(
     )
 }
 
-/// The plan, with the seeds known. It refuses with `NoWord` where the phase has no result.
-fn plan_of(
+/// The plan, with the seeds known. It refuses as the phase does, and with `NoWord` where that has no result.
+fn plan_of<C: Crew, Q: Pace + Send, R: Threads + Wait + Sync>(
+    rt: &R,
     alloc: Global,
     asked: &Asked,
     committee: Committee,
     seeds: &[[u8; 32]],
+    crew: &mut C,
+    pace: &mut Q,
 ) -> Result<Plan, Status>
     requires may { MayMove (standing_of asked.now) committee.members committee.bound }
     requires lines { AllLawful (moving_of (standing_of asked.now) committee.members committee.bound) asked.now.drill }
     requires seeds { length seeds.now ≡ seeds_for (standing_of asked.now) }
-    ensures meaning { PlansMove (standing_of asked.now) committee.members committee.bound seeds.now result }
-    ensures cause { IfErr result IsFromWork }
+    ensures meaning { PlansMove (standing_of asked.now) committee.members committee.bound seeds.now (cuts_since (Q.answered_count pace.old) (Q.answered_count pace.new) (Q.cuts_of pace.new)) result }
+    ensures lent { Lent C.fault_count C.attended_count C.calm crew.old crew.new }
+    ensures attended { IfOk result (λ _. C.attended_count crew.new ≡ min (C.attended_count crew.old + (asked.now.file.n + committee.members)) (2 ^ 64 - 1)) }
+    ensures cause { IfErr result (IsFromPhase (C.fault_count crew.old) (C.fault_count crew.new)) }
 {
-    let down = new_marks(alloc, &asked.files, &asked.drill, committee.members)?;
-    let moved = run_move(alloc, asked, committee, &down, seeds)?;
+    let before = moving_marks(alloc, &asked.files, &asked.drill, committee.members)?;
+    let moved = run_move(rt, alloc, asked, committee, &before, seeds, crew, pace)?;
     let corrected = corrected_by(alloc, &moved.outs)?;
-    let now = following_now(&asked.file, committee, &down);
+    let now = following_now(&asked.file, committee, &moved.down);
     let shares = shares_of(alloc, &moved.outs)?;
     let changes = next_changes(alloc, &asked.file, &now, &shares)?;
     let text = moved_text(alloc, &asked.file, &now, &moved, corrected, &shares)?;
@@ -163,46 +173,57 @@ fn plan_of(
 }
 
 /// The plan of a move, with what it finds known: it takes a seed for each valid share file, and runs the phase.
-fn plan_with<E: Entropy>(
+fn plan_with<E: Entropy, C: Crew, Q: Pace + Send, R: Threads + Wait + Sync>(
+    rt: &R,
     alloc: Global,
     asked: &Asked,
     committee: Committee,
     entropy: &mut E,
+    crew: &mut C,
+    pace: &mut Q,
 ) -> Result<Plan, Status>
     requires may { MayMove (standing_of asked.now) committee.members committee.bound }
     requires lines { AllLawful (moving_of (standing_of asked.now) committee.members committee.bound) asked.now.drill }
-    ensures meaning { PlansWith (λ o. (masks : List ℕ) × Moves committee.members committee.bound (E.coming entropy.old) masks (standing_of asked.now) o) (λ count. count ≡ seeds_for (standing_of asked.now)) (E.coming entropy.old) (E.coming entropy.new) result }
+    ensures meaning { PlansWith (λ o. (masks : List ℕ) × Moves committee.members committee.bound (E.coming entropy.old) (cuts_since (Q.answered_count pace.old) (Q.answered_count pace.new) (Q.cuts_of pace.new)) masks (standing_of asked.now) o) (λ count. count ≡ seeds_for (standing_of asked.now)) (E.coming entropy.old) (E.coming entropy.new) result }
     ensures later { E.fault_count entropy.old ≤ E.fault_count entropy.new }
-    ensures cause { IfErr result (IsFromSeeds (E.fault_count entropy.old) (E.fault_count entropy.new)) }
+    ensures cause { IfErr result (IsFromSeeds (E.fault_count entropy.old) (E.fault_count entropy.new) (C.fault_count crew.old) (C.fault_count crew.new)) }
+    ensures lent { Lent C.fault_count C.attended_count C.calm crew.old crew.new }
+    ensures attended { IfOk result (λ _. C.attended_count crew.new ≡ min (C.attended_count crew.old + (asked.now.file.n + committee.members)) (2 ^ 64 - 1)) }
     ensures calm { E.calm entropy.old → IfSome (E.coming entropy.old) (λ seeds. seeds_for (standing_of asked.now) ≤ length seeds) → E.calm entropy.new }
 {
     let count = valid_count(&asked.files);
     let seeds = seeds_of(alloc, count, entropy)?;
-    let plan = plan_of(alloc, asked, committee, &seeds)?;
+    let plan = plan_of(rt, alloc, asked, committee, &seeds, crew, pace)?;
     Ok(plan)
 }
 
 /// What `move NAME M U` will do, under the drill in the file that is named, if one is. It refuses as `asked_of` does, with
-/// `EntropyFault` where a seed could not be had, and with `NoWord` where the phase has no result.
-pub(crate) fn plan_move<H: Shelf, E: Entropy>(
+/// `EntropyFault` where a seed could not be had, with `NoThread` where a thread could not, with `TooFewSound` where the phase
+/// leaves too few of the old or the new members, and with `NoWord` where it has no result.
+pub(crate) fn plan_move<H: Shelf, E: Entropy, C: Crew, Q: Pace + Send, R: Threads + Wait + Sync>(
+    rt: &R,
     alloc: Global,
     name: &KeyName,
     committee: Committee,
     drill: Option<&str>,
     shelf: &mut H,
     entropy: &mut E,
+    crew: &mut C,
+    pace: &mut Q,
 ) -> Result<Plan, Status>
     requires size { IsTrue (is_size committee.members) }
     requires bound { IsTrue (is_bound committee.members committee.bound) }
     ensures reads { OnlyReads H.held H.fault_count H.calm shelf.old shelf.new }
     ensures meaning { IfSome (H.held shelf.old) (λ m.
-        PlansWith (MeansSome (Move name.now committee.members committee.bound (text_of drill.entry)) (record { held = m; coming = E.coming entropy.old }))
+        PlansWith (MeansSome (Move name.now committee.members committee.bound (text_of drill.entry)) (record { held = m; coming = E.coming entropy.old; cuts = cuts_since (Q.answered_count pace.old) (Q.answered_count pace.new) (Q.cuts_of pace.new) }))
         (TakesSeeds (Move name.now committee.members committee.bound (text_of drill.entry)) m) (E.coming entropy.old) (E.coming entropy.new) result) }
     ensures later { E.fault_count entropy.old ≤ E.fault_count entropy.new }
-    ensures cause { IfErr result (IsFromCommand (before_text (H.fault_count shelf.old) (E.fault_count entropy.old)) (before_text (H.fault_count shelf.new) (E.fault_count entropy.new))) }
+    ensures cause { IfErr result (IsFromCommand (before_text (H.fault_count shelf.old) (E.fault_count entropy.old) (C.fault_count crew.old)) (before_text (H.fault_count shelf.new) (E.fault_count entropy.new) (C.fault_count crew.new))) }
     ensures calm { E.calm entropy.old → AreEnoughFor (Move name.now committee.members committee.bound (text_of drill.entry)) (H.held shelf.old) (E.coming entropy.old) → E.calm entropy.new }
     ensures now { IfOk result (λ _. IfSome (H.held shelf.old) (ReadsNow (Move name.now committee.members committee.bound (text_of drill.entry)))) }
+    ensures lent { Lent C.fault_count C.attended_count C.calm crew.old crew.new }
+    ensures attended { IfOk result (λ _. AllAttended (Move name.now committee.members committee.bound (text_of drill.entry)) (H.held shelf.old) (C.attended_count crew.old) (C.attended_count crew.new)) }
 {
     let asked = asked_of(alloc, name, committee, drill, shelf)?;
-    plan_with(alloc, &asked, committee, entropy)
+    plan_with(rt, alloc, &asked, committee, entropy, crew, pace)
 }

@@ -1,34 +1,44 @@
 //! The phase of a move.
-ghost use Rattle.std.specs.Prelude.{◌≡◌, ◌≤◌, ◌<◌, ◌-◌, ◌+◌, ◌++◌, Some, None, false, length, map, drop, count_by, IfOk, OnOk};
+ghost use Rattle.std.specs.Prelude.{◌≡◌, ◌≤◌, ◌<◌, ◌-◌, ◌+◌, ◌^◌, ◌++◌, Some, None, false, length, map, min, drop, count_by, IfOk, IfErr, OnOk};
 ghost use Rattle.std.specs.List.{range_with_len};
 ghost use Rattle.sizes.specs.Committees.{IsCommittee};
 ghost use Rattle.talk.specs.Shape.{move_shape};
 ghost use Rattle.drillbook.specs.Orders.{AllLawful};
 ghost use Rattle.keyroom.specs.Sound.{is_valid};
-ghost use Rattle.committee.specs.Move.{dealt_shares, moving, moving_of};
-ghost use Rattle.committee.specs.MovePhase.{old_on, new_on, minds_on, IsEnd, accepted_at, ComesTo, OutIs, AllCome, MayMove, down_new, IsMovePhase};
+ghost use Rattle.committee.specs.Causes.{IsFromPhase};
+ghost use Rattle.committee.specs.Crews.{Lent};
+ghost use Rattle.committee.specs.Late.{cuts_since};
+ghost use Rattle.committee.specs.Move.{dealt_shares, moving, moving_of, down_moving};
+ghost use Rattle.committee.specs.MovePhase.{old_on, new_on, minds_on, IsEnd, accepted_at, ComesTo, OutIs, AllCome, MayMove, IsMovePhase, RefusesPhase};
 ghost use Rattle.committee.specs.Phase.{marked, marks_of, AllDone, standing_of};
 ghost use Rattle.committee.specs.Run.{numbered, drilled_on, drilled_all};
 ghost use Rattle.committee.specs.Standing.{holdings, seeds_for};
 
 use crate::down::is_marked;
+use crate::lateness::new_down_after;
 use crate::phase::{Party, accepted_by};
+use crate::running::run_minds;
 use crate::standing::Asked;
 use chance61::Chance;
 use drillbook::{Drill, Drilled};
 use field61::{Fe, NumberList};
-use keyroom::Found;
+use keyroom::{Found, Status};
 use lists::OutOfMemory;
 use moveshare::{MoveMind, MoveNew, MoveOld, MoveOut};
+use party_crew::{Crew, Pace};
 use sizes::Committee;
 use std::alloc::Global;
-use talk::{Setting, drive};
+use std::sync::Wait;
+use std::thread::Threads;
+use talk::Setting;
 
 /// What the phase of a move leaves.
 #[derive(Drop)]
 pub(crate) struct Moved {
     /// The mask of each round.
     pub masks: NumberList,
+    /// Which of the new members were down, by index.
+    pub down: Vec<bool>,
     /// How many instances were accepted.
     pub accepted: u32,
     /// What each new member comes to, by index; nothing for one that was down.
@@ -278,22 +288,37 @@ fn outs_of<const N: usize, const M: usize>(
 }
 
 /// The phase from N members to M.
-fn phase_among<const N: usize, const M: usize>(
+fn phase_among<
+    C: Crew,
+    Q: Pace + Send,
+    R: Threads + Wait + Sync,
+    const N: usize,
+    const M: usize,
+    const S: usize,
+>(
+    rt: &R,
     alloc: Global,
     bound: u32,
     asked: &Asked,
     committee: Committee,
-    down: &[bool],
+    before: &[bool],
     seeds: &[[u8; 32]],
-) -> Result<Moved, OutOfMemory>
+    crew: &mut C,
+    pace: &mut Q,
+) -> Result<Moved, Status>
     requires old { N ≡ asked.now.file.n }
     requires bound { bound ≡ asked.now.file.t }
     requires new { M ≡ committee.members }
+    requires seats { S ≡ N + M }
     requires may { MayMove (standing_of asked.now) committee.members committee.bound }
     requires lines { AllLawful (moving_of (standing_of asked.now) committee.members committee.bound) asked.now.drill }
-    requires down { down.now ≡ marks_of (down_new (standing_of asked.now)) committee.members }
+    requires before { before.now ≡ marks_of (down_moving (standing_of asked.now)) (asked.now.file.n + committee.members) }
     requires seeds { length seeds.now ≡ seeds_for (standing_of asked.now) }
-    ensures { IfOk result (IsMovePhase (standing_of asked.now) committee.members committee.bound seeds.now) }
+    ensures left { IfOk result (IsMovePhase (standing_of asked.now) committee.members committee.bound seeds.now (cuts_since (Q.answered_count pace.old) (Q.answered_count pace.new) (Q.cuts_of pace.new))) }
+    ensures few { IfErr result (RefusesPhase (standing_of asked.now) committee.members committee.bound seeds.now (cuts_since (Q.answered_count pace.old) (Q.answered_count pace.new) (Q.cuts_of pace.new))) }
+    ensures lent { Lent C.fault_count C.attended_count C.calm crew.old crew.new }
+    ensures attended { IfOk result (λ _. C.attended_count crew.new ≡ min (C.attended_count crew.old + (asked.now.file.n + committee.members)) (2 ^ 64 - 1)) }
+    ensures cause { IfErr result (IsFromPhase (C.fault_count crew.old) (C.fault_count crew.new)) }
 {
     let bounds = Bounds {
         old: bound,
@@ -301,64 +326,118 @@ fn phase_among<const N: usize, const M: usize>(
     };
     let setting = Setting::moving(N as u32, bounds.old, M as u32, bounds.new);
     let minds = minds_of::<N, M>(alloc, bounds, asked, seeds)?;
-    let driven = drive(alloc, minds, &setting)?;
-    let receivers = new_minds(&driven.minds);
-    let accepted = accepted_by(down, receivers);
-    let outs = outs_of(alloc, down, receivers)?;
+    let ran = run_minds::<Drilled<MoveMind<N, M>>, C, Q, R, S>(
+        rt, alloc, minds, &setting, crew, pace,
+    )?;
+    let old = Committee {
+        members: N as u32,
+        bound,
+    };
+    let down = new_down_after(alloc, old, committee, before, &ran.masks)?;
+    let receivers = new_minds(&ran.minds);
+    let accepted = accepted_by(&down, receivers);
+    let outs = outs_of(alloc, &down, receivers)?;
     Ok(Moved {
-        masks: driven.masks,
+        masks: ran.masks,
+        down,
         accepted,
         outs,
     })
 }
 
-/// The phase from N members.
-fn phase_from<const N: usize>(
+/// The phase from N members; the other numbers are those of all seats, by the size of the new committee.
+fn phase_from<
+    C: Crew,
+    Q: Pace + Send,
+    R: Threads + Wait + Sync,
+    const N: usize,
+    const WITH_4: usize,
+    const WITH_5: usize,
+    const WITH_7: usize,
+    const WITH_10: usize,
+    const WITH_13: usize,
+>(
+    rt: &R,
     alloc: Global,
     bound: u32,
     asked: &Asked,
     committee: Committee,
-    down: &[bool],
+    before: &[bool],
     seeds: &[[u8; 32]],
-) -> Result<Moved, OutOfMemory>
+    crew: &mut C,
+    pace: &mut Q,
+) -> Result<Moved, Status>
     requires old { N ≡ asked.now.file.n }
+    requires seats { (WITH_4 ≡ N + 4) × (WITH_5 ≡ N + 5) × (WITH_7 ≡ N + 7) × (WITH_10 ≡ N + 10) × (WITH_13 ≡ N + 13) }
     requires bound { bound ≡ asked.now.file.t }
     requires may { MayMove (standing_of asked.now) committee.members committee.bound }
     requires lines { AllLawful (moving_of (standing_of asked.now) committee.members committee.bound) asked.now.drill }
-    requires down { down.now ≡ marks_of (down_new (standing_of asked.now)) committee.members }
+    requires before { before.now ≡ marks_of (down_moving (standing_of asked.now)) (asked.now.file.n + committee.members) }
     requires seeds { length seeds.now ≡ seeds_for (standing_of asked.now) }
-    ensures { IfOk result (IsMovePhase (standing_of asked.now) committee.members committee.bound seeds.now) }
+    ensures left { IfOk result (IsMovePhase (standing_of asked.now) committee.members committee.bound seeds.now (cuts_since (Q.answered_count pace.old) (Q.answered_count pace.new) (Q.cuts_of pace.new))) }
+    ensures few { IfErr result (RefusesPhase (standing_of asked.now) committee.members committee.bound seeds.now (cuts_since (Q.answered_count pace.old) (Q.answered_count pace.new) (Q.cuts_of pace.new))) }
+    ensures lent { Lent C.fault_count C.attended_count C.calm crew.old crew.new }
+    ensures attended { IfOk result (λ _. C.attended_count crew.new ≡ min (C.attended_count crew.old + (asked.now.file.n + committee.members)) (2 ^ 64 - 1)) }
+    ensures cause { IfErr result (IsFromPhase (C.fault_count crew.old) (C.fault_count crew.new)) }
 {
     match committee.members {
-        4 => phase_among::<N, 4>(alloc, bound, asked, committee, down, seeds),
-        5 => phase_among::<N, 5>(alloc, bound, asked, committee, down, seeds),
-        7 => phase_among::<N, 7>(alloc, bound, asked, committee, down, seeds),
-        10 => phase_among::<N, 10>(alloc, bound, asked, committee, down, seeds),
-        _ => phase_among::<N, 13>(alloc, bound, asked, committee, down, seeds),
+        4 => phase_among::<C, Q, R, N, 4, WITH_4>(
+            rt, alloc, bound, asked, committee, before, seeds, crew, pace,
+        ),
+        5 => phase_among::<C, Q, R, N, 5, WITH_5>(
+            rt, alloc, bound, asked, committee, before, seeds, crew, pace,
+        ),
+        7 => phase_among::<C, Q, R, N, 7, WITH_7>(
+            rt, alloc, bound, asked, committee, before, seeds, crew, pace,
+        ),
+        10 => phase_among::<C, Q, R, N, 10, WITH_10>(
+            rt, alloc, bound, asked, committee, before, seeds, crew, pace,
+        ),
+        _ => phase_among::<C, Q, R, N, 13, WITH_13>(
+            rt, alloc, bound, asked, committee, before, seeds, crew, pace,
+        ),
     }
 }
 
-/// The phase of a move to a committee that the program has, with a seed for each valid share file. Who of the new members
-/// is marked is down. The error is want of memory.
-pub(crate) fn run_move(
+/// The phase of a move to a committee that the program has, with a seed for each valid share file. Whose seats are marked is
+/// down before it. It refuses as `run_minds` does, and with `TooFewSound` where too few of the old or the new members are
+/// left.
+pub(crate) fn run_move<C: Crew, Q: Pace + Send, R: Threads + Wait + Sync>(
+    rt: &R,
     alloc: Global,
     asked: &Asked,
     committee: Committee,
-    down: &[bool],
+    before: &[bool],
     seeds: &[[u8; 32]],
-) -> Result<Moved, OutOfMemory>
+    crew: &mut C,
+    pace: &mut Q,
+) -> Result<Moved, Status>
     requires may { MayMove (standing_of asked.now) committee.members committee.bound }
     requires lines { AllLawful (moving_of (standing_of asked.now) committee.members committee.bound) asked.now.drill }
-    requires down { down.now ≡ marks_of (down_new (standing_of asked.now)) committee.members }
+    requires before { before.now ≡ marks_of (down_moving (standing_of asked.now)) (asked.now.file.n + committee.members) }
     requires seeds { length seeds.now ≡ seeds_for (standing_of asked.now) }
-    ensures { IfOk result (IsMovePhase (standing_of asked.now) committee.members committee.bound seeds.now) }
+    ensures left { IfOk result (IsMovePhase (standing_of asked.now) committee.members committee.bound seeds.now (cuts_since (Q.answered_count pace.old) (Q.answered_count pace.new) (Q.cuts_of pace.new))) }
+    ensures few { IfErr result (RefusesPhase (standing_of asked.now) committee.members committee.bound seeds.now (cuts_since (Q.answered_count pace.old) (Q.answered_count pace.new) (Q.cuts_of pace.new))) }
+    ensures lent { Lent C.fault_count C.attended_count C.calm crew.old crew.new }
+    ensures attended { IfOk result (λ _. C.attended_count crew.new ≡ min (C.attended_count crew.old + (asked.now.file.n + committee.members)) (2 ^ 64 - 1)) }
+    ensures cause { IfErr result (IsFromPhase (C.fault_count crew.old) (C.fault_count crew.new)) }
 {
     let bound = asked.file.t;
     match asked.file.n {
-        4 => phase_from::<4>(alloc, bound, asked, committee, down, seeds),
-        5 => phase_from::<5>(alloc, bound, asked, committee, down, seeds),
-        7 => phase_from::<7>(alloc, bound, asked, committee, down, seeds),
-        10 => phase_from::<10>(alloc, bound, asked, committee, down, seeds),
-        _ => phase_from::<13>(alloc, bound, asked, committee, down, seeds),
+        4 => phase_from::<C, Q, R, 4, 8, 9, 11, 14, 17>(
+            rt, alloc, bound, asked, committee, before, seeds, crew, pace,
+        ),
+        5 => phase_from::<C, Q, R, 5, 9, 10, 12, 15, 18>(
+            rt, alloc, bound, asked, committee, before, seeds, crew, pace,
+        ),
+        7 => phase_from::<C, Q, R, 7, 11, 12, 14, 17, 20>(
+            rt, alloc, bound, asked, committee, before, seeds, crew, pace,
+        ),
+        10 => phase_from::<C, Q, R, 10, 14, 15, 17, 20, 23>(
+            rt, alloc, bound, asked, committee, before, seeds, crew, pace,
+        ),
+        _ => phase_from::<C, Q, R, 13, 17, 18, 20, 23, 26>(
+            rt, alloc, bound, asked, committee, before, seeds, crew, pace,
+        ),
     }
 }

@@ -1,17 +1,26 @@
-//! A phase on one thread: the members' minds, drilled, in a synchronous run, and what is read off them in the end.
-ghost use Rattle.std.specs.Prelude.{◌≡◌, ◌≤◌, ℕ, List, length, false, IfOk};
+//! A phase: the members' minds, drilled, each on a thread of its own, and what is read off them in the end.
+ghost use Rattle.std.specs.Prelude.{◌≡◌, ◌≤◌, ◌+◌, ◌-◌, ◌^◌, ℕ, List, length, false, min, IfOk, IfErr};
 ghost use Rattle.algebra61.specs.Field.{Fp};
 ghost use Rattle.talk.specs.Hears.{Hearing, Seated};
 ghost use Rattle.talk.specs.Shape.{seats};
 ghost use Rattle.talk.specs.Sync.{ways};
+ghost use Rattle.committee.specs.Causes.{IsFromCrew};
+ghost use Rattle.committee.specs.Crews.{Lent};
+ghost use Rattle.committee.specs.Late.{cuts_since};
 ghost use Rattle.committee.specs.Phase.{marked, unless_down, AllDone, shares_in, accepted_first, EndDone, IsReadOff};
 
 use crate::down::is_marked;
+use crate::lateness::down_after;
+use crate::running::run_minds;
 use drillbook::Drilled;
 use field61::{Fe, NumberList};
+use keyroom::Status;
 use lists::OutOfMemory;
+use party_crew::{Crew, Pace};
 use std::alloc::Global;
-use talk::{Mind, Setting, drive};
+use std::sync::Wait;
+use std::thread::Threads;
+use talk::{Mind, Setting};
 
 /// A receiver's mind in a phase.
 pub(crate) trait Party: Mind {
@@ -43,6 +52,8 @@ pub(crate) trait Keeps: Party {
 pub(crate) struct Phase {
     /// The mask of each round.
     pub masks: NumberList,
+    /// Who is down after it, by index: who was before, and who is late.
+    pub down: Vec<bool>,
     /// How many instances were accepted.
     pub accepted: u32,
     /// The shares of each member, by index; none for one that was down.
@@ -97,26 +108,44 @@ pub(crate) fn accepted_by<M: Party>(down: &[bool], minds: &[Drilled<M>]) -> u32
     0
 }
 
-/// Runs a phase over fresh minds of a setting, by seat. The minds on the seats that aren't down have their shares after
-/// the run, whatever the others say.
-pub(crate) fn phase_of<M: Keeps>(
+/// Runs a phase over fresh minds of a setting, by seat; who was down before it is marked. The minds on the seats that aren't
+/// down after it have their shares then, whatever the others say. It refuses with `NoThread` only where the crew's count of
+/// faults rose; else the error is want of memory.
+pub(crate) fn phase_of<
+    M: Keeps + Send,
+    C: Crew,
+    Q: Pace + Send,
+    R: Threads + Wait + Sync,
+    const S: usize,
+>(
+    rt: &R,
     alloc: Global,
     minds: Vec<Drilled<M>>,
-    down: &[bool],
+    before: &[bool],
     setting: &Setting,
-) -> Result<Phase, OutOfMemory>
+    crew: &mut C,
+    pace: &mut Q,
+) -> Result<Phase, Status>
+    requires some { 2 ≤ S }
     requires few { length minds.items ≤ 15 }
+    requires seats { seats setting.now ≡ S }
     requires all { length minds.items ≡ seats setting.now }
     requires fresh { Hearing (λ d round. M.may_say d.inner round) 1 minds.items }
     requires made { Seated (λ d s seat. (d.shape ≡ s) × (d.seat ≡ seat) × M.made_for d.inner s seat) setting.now 1 minds.items }
-    requires ends { EndDone (ways M.word M.after_say M.after_hear) M.is_done setting.now (marked down.now) minds.items }
-    ensures { IfOk result (IsReadOff (ways M.word M.after_say M.after_hear) M.lanes M.count setting.now (marked down.now) minds.items) }
+    requires marks { length before.now ≡ length minds.items }
+    requires ends { EndDone (ways M.word M.after_say M.after_hear) M.is_done setting.now (marked before.now) minds.items }
+    ensures left { IfOk result (IsReadOff (ways M.word M.after_say M.after_hear) M.lanes M.count setting.now (marked before.now) (cuts_since (Q.answered_count pace.old) (Q.answered_count pace.new) (Q.cuts_of pace.new)) minds.items) }
+    ensures lent { Lent C.fault_count C.attended_count C.calm crew.old crew.new }
+    ensures attended { IfOk result (λ _. C.attended_count crew.new ≡ min (C.attended_count crew.old + S) (2 ^ 64 - 1)) }
+    ensures cause { IfErr result (IsFromCrew (C.fault_count crew.old) (C.fault_count crew.new)) }
 {
-    let driven = drive(alloc, minds, setting)?;
-    let accepted = accepted_by(down, &driven.minds);
-    let shares = shares_of(alloc, down, &driven.minds)?;
+    let ran = run_minds::<Drilled<M>, C, Q, R, S>(rt, alloc, minds, setting, crew, pace)?;
+    let down = down_after(alloc, before, &ran.masks)?;
+    let accepted = accepted_by(&down, &ran.minds);
+    let shares = shares_of(alloc, &down, &ran.minds)?;
     Ok(Phase {
-        masks: driven.masks,
+        masks: ran.masks,
+        down,
         accepted,
         shares,
     })

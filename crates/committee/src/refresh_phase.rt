@@ -1,11 +1,14 @@
 //! The phase of a refresh.
-ghost use Rattle.std.specs.Prelude.{◌≡◌, ◌≤◌, ◌<◌, ◌-◌, ◌+◌, ◌*◌, Some, None, length, count_by, drop, IfOk};
+ghost use Rattle.std.specs.Prelude.{◌≡◌, ◌≤◌, ◌<◌, ◌-◌, ◌+◌, ◌*◌, ◌^◌, Some, None, length, min, count_by, drop, IfOk, IfErr};
 ghost use Rattle.sizes.specs.Committees.{IsCommittee};
 ghost use Rattle.chance61.specs.Draws.{grids_drawn};
 ghost use Rattle.talk.specs.Shape.{refresh_shape};
 ghost use Rattle.zeroshare.specs.Refresh.{HasResult, shares_in, accepted_by};
 ghost use Rattle.drillbook.specs.Orders.{AllLawful};
 ghost use Rattle.keyroom.specs.Sound.{is_valid};
+ghost use Rattle.committee.specs.Causes.{IsFromCrew};
+ghost use Rattle.committee.specs.Crews.{Lent};
+ghost use Rattle.committee.specs.Late.{cuts_since};
 ghost use Rattle.committee.specs.Refresh.{setting_of, keeping, keeper_on, keepers_on};
 ghost use Rattle.committee.specs.Standing.{down_in, holdings, seeds_for};
 ghost use Rattle.committee.specs.Phase.{marks_of, standing_of, IsReady, IsRefreshPhase};
@@ -16,9 +19,12 @@ use crate::standing::Asked;
 use chance61::Chance;
 use drillbook::{Drill, Drilled};
 use field61::Fe;
-use keyroom::Found;
+use keyroom::{Found, Status};
 use lists::OutOfMemory;
+use party_crew::{Crew, Pace};
 use std::alloc::Global;
+use std::sync::Wait;
+use std::thread::Threads;
 use talk::Setting;
 use zeroshare::Refresh;
 
@@ -107,46 +113,59 @@ fn minds_of<const N: usize>(
 }
 
 /// The phase among N members.
-fn phase_among<const N: usize>(
+fn phase_among<C: Crew, Q: Pace + Send, R: Threads + Wait + Sync, const N: usize>(
+    rt: &R,
     alloc: Global,
     bound: u32,
     asked: &Asked,
-    down: &[bool],
+    before: &[bool],
     seeds: &[[u8; 32]],
-) -> Result<Phase, OutOfMemory>
+    crew: &mut C,
+    pace: &mut Q,
+) -> Result<Phase, Status>
     requires size { N ≡ asked.now.file.n }
     requires bound { bound ≡ asked.now.file.t }
     requires ready { IsReady (standing_of asked.now) }
     requires lines { AllLawful (setting_of (standing_of asked.now)) asked.now.drill }
-    requires down { down.now ≡ marks_of (down_in (standing_of asked.now)) asked.now.file.n }
+    requires before { before.now ≡ marks_of (down_in (standing_of asked.now)) asked.now.file.n }
     requires seeds { length seeds.now ≡ seeds_for (standing_of asked.now) }
-    ensures { IfOk result (IsRefreshPhase (standing_of asked.now) seeds.now) }
+    ensures left { IfOk result (IsRefreshPhase (standing_of asked.now) seeds.now (cuts_since (Q.answered_count pace.old) (Q.answered_count pace.new) (Q.cuts_of pace.new))) }
+    ensures lent { Lent C.fault_count C.attended_count C.calm crew.old crew.new }
+    ensures attended { IfOk result (λ _. C.attended_count crew.new ≡ min (C.attended_count crew.old + asked.now.file.n) (2 ^ 64 - 1)) }
+    ensures cause { IfErr result (IsFromCrew (C.fault_count crew.old) (C.fault_count crew.new)) }
 {
     let setting = Setting::refresh(N as u32, bound);
     let minds = minds_of::<N>(alloc, bound, &asked.drill, &asked.files, seeds)?;
-    let phase = phase_of(alloc, minds, down, &setting)?;
+    let phase = phase_of::<Refresh<N>, C, Q, R, N>(rt, alloc, minds, before, &setting, crew, pace)?;
     Ok(phase)
 }
 
-/// The phase of a refresh, with a seed for each valid share file. Who is marked is down. The error is want of memory.
-pub(crate) fn run_refresh(
+/// The phase of a refresh, with a seed for each valid share file; who is down before it is marked. It refuses as `phase_of`
+/// does.
+pub(crate) fn run_refresh<C: Crew, Q: Pace + Send, R: Threads + Wait + Sync>(
+    rt: &R,
     alloc: Global,
     asked: &Asked,
-    down: &[bool],
+    before: &[bool],
     seeds: &[[u8; 32]],
-) -> Result<Phase, OutOfMemory>
+    crew: &mut C,
+    pace: &mut Q,
+) -> Result<Phase, Status>
     requires ready { IsReady (standing_of asked.now) }
     requires lines { AllLawful (setting_of (standing_of asked.now)) asked.now.drill }
-    requires down { down.now ≡ marks_of (down_in (standing_of asked.now)) asked.now.file.n }
+    requires before { before.now ≡ marks_of (down_in (standing_of asked.now)) asked.now.file.n }
     requires seeds { length seeds.now ≡ seeds_for (standing_of asked.now) }
-    ensures { IfOk result (IsRefreshPhase (standing_of asked.now) seeds.now) }
+    ensures left { IfOk result (IsRefreshPhase (standing_of asked.now) seeds.now (cuts_since (Q.answered_count pace.old) (Q.answered_count pace.new) (Q.cuts_of pace.new))) }
+    ensures lent { Lent C.fault_count C.attended_count C.calm crew.old crew.new }
+    ensures attended { IfOk result (λ _. C.attended_count crew.new ≡ min (C.attended_count crew.old + asked.now.file.n) (2 ^ 64 - 1)) }
+    ensures cause { IfErr result (IsFromCrew (C.fault_count crew.old) (C.fault_count crew.new)) }
 {
     let bound = asked.file.t;
     match asked.file.n {
-        4 => phase_among::<4>(alloc, bound, asked, down, seeds),
-        5 => phase_among::<5>(alloc, bound, asked, down, seeds),
-        7 => phase_among::<7>(alloc, bound, asked, down, seeds),
-        10 => phase_among::<10>(alloc, bound, asked, down, seeds),
-        _ => phase_among::<13>(alloc, bound, asked, down, seeds),
+        4 => phase_among::<C, Q, R, 4>(rt, alloc, bound, asked, before, seeds, crew, pace),
+        5 => phase_among::<C, Q, R, 5>(rt, alloc, bound, asked, before, seeds, crew, pace),
+        7 => phase_among::<C, Q, R, 7>(rt, alloc, bound, asked, before, seeds, crew, pace),
+        10 => phase_among::<C, Q, R, 10>(rt, alloc, bound, asked, before, seeds, crew, pace),
+        _ => phase_among::<C, Q, R, 13>(rt, alloc, bound, asked, before, seeds, crew, pace),
     }
 }

@@ -1,13 +1,19 @@
 ghost use Rattle.std.specs.Prelude.{◌≤◌};
 
+mod held;
+mod late;
+
 use super::*;
 use field61::Fe;
 use keyroom::{MemberState, Sealed, check_key, open_doc, recover_key, seal_doc, share_name};
 use lists::TryCopy;
+use party_crew::{FailCrew, StillPace, ThreadCrew};
 use sharefile::{KeyName, NowFile, ShareFile, read_now, write_now, write_share};
 use shelf::{MemoryEntropy, MemoryShelf, MemorySink, Shelf};
 use std::alloc::Global;
+use std::sync::Wait;
 use std::test::Fail;
+use std::thread::Threads;
 
 fn words(alloc: Global, texts: &[&str]) -> Result<Vec<String>, Fail> {
     let mut words = Vec::new(alloc);
@@ -70,17 +76,35 @@ fn seven_seeds(alloc: Global, fails: &[u64]) -> Result<MemoryEntropy, Fail> {
     Ok(MemoryEntropy::new(seeds, fails.to_vec(alloc)?))
 }
 
-/// Runs a command over a calm entropy and sink, and fails where its line or its text is another.
-fn runs(
+/// Runs a command over a calm entropy and sink and a crew of threads, and fails where its line or its text is another.
+fn runs<R: Threads + Wait + Sync>(
+    rt: &R,
     alloc: Global,
     shelf: &mut MemoryShelf,
     texts: &[&str],
     line: &str,
     text: &str,
 ) -> Result<(), Fail> {
+    let mut crew = ThreadCrew::new();
+    let mut pace = StillPace::new();
+    runs_with(rt, alloc, shelf, &mut crew, &mut pace, texts, line, text)
+}
+
+/// The same with any crew and any pace.
+fn runs_with<C: Crew, Q: Pace + Send, R: Threads + Wait + Sync>(
+    rt: &R,
+    alloc: Global,
+    shelf: &mut MemoryShelf,
+    crew: &mut C,
+    pace: &mut Q,
+    texts: &[&str],
+    line: &str,
+    text: &str,
+) -> Result<(), Fail> {
     let mut entropy = seven_seeds(alloc, &[])?;
     let mut out = MemorySink::new(alloc, Vec::new(alloc));
-    let status = run(alloc, &words(alloc, texts)?, shelf, &mut entropy, &mut out);
+    let words = words(alloc, texts)?;
+    let status = run(rt, alloc, &words, shelf, &mut entropy, crew, pace, &mut out);
     if status.line(alloc)?.as_str() != line {
         return Err("another line".into());
     }
@@ -97,18 +121,19 @@ fn recovers_and_checks_with_wrong_and_missing_shares(rt: HostRuntime) -> Result<
     let text = "recover k1 4 1 period 1\n\
         member 1 ok\nmember 2 ok\nmember 3 ok\nmember 4 ok\n\
         key 133e7f97ad4b6a1fc1bebc9e6a35d495f3de8d4df7615d75d074b69f4d1ec0c3\n";
-    runs(alloc, &mut whole, &["recover", "k1"], "", text)?;
+    runs(&rt, alloc, &mut whole, &["recover", "k1"], "", text)?;
     whole.remove(alloc, "k1.1.1.share")?;
     whole.put(alloc, "k1.1.1.share", b"DKSH")?;
     let text = "check k1 4 1 period 1\nmember 1 damaged\nmember 2 ok\nmember 3 ok\nmember 4 ok\n";
-    runs(alloc, &mut whole, &["check", "k1"], "", text)?;
+    runs(&rt, alloc, &mut whole, &["check", "k1"], "", text)?;
     let mut wrong = shelf_of(alloc, 99)?;
     let text = "recover k1 4 1 period 1\n\
         member 1 ok\nmember 2 ok\nmember 3 wrong\nmember 4 ok\n\
         key 133e7f97ad4b6a1fc1bebc9e6a35d495f3de8d4df7615d75d074b69f4d1ec0c3\n";
-    runs(alloc, &mut wrong, &["recover", "k1"], "", text)?;
+    runs(&rt, alloc, &mut wrong, &["recover", "k1"], "", text)?;
     wrong.remove(alloc, "k1.1.1.share")?;
     runs(
+        &rt,
         alloc,
         &mut wrong,
         &["recover", "k1"],
@@ -139,9 +164,9 @@ fn recover_key_and_check_key_give_the_states(rt: HostRuntime) -> Result<(), Fail
 }
 
 /// Runs words that are no command over an empty shelf.
-fn is_usage(alloc: Global, texts: &[&str]) -> Result<(), Fail> {
+fn is_usage<R: Threads + Wait + Sync>(rt: &R, alloc: Global, texts: &[&str]) -> Result<(), Fail> {
     let mut shelf = MemoryShelf::new(alloc, Vec::new(alloc));
-    runs(alloc, &mut shelf, texts, "refused 2 usage", "")?;
+    runs(rt, alloc, &mut shelf, texts, "refused 2 usage", "")?;
     if shelf.len() != 0 {
         return Err("a changed shelf".into());
     }
@@ -151,16 +176,16 @@ fn is_usage(alloc: Global, texts: &[&str]) -> Result<(), Fail> {
 #[test]
 fn refuses_words_that_are_no_command(rt: HostRuntime) -> Result<(), Fail> {
     let alloc = rt.alloc();
-    is_usage(alloc, &[])?;
-    is_usage(alloc, &["recover"])?;
-    is_usage(alloc, &["recover", "K1"])?;
-    is_usage(alloc, &["recover", "k1", "--help"])?;
-    is_usage(alloc, &["create", "K1", "4", "1"])?;
-    is_usage(alloc, &["create", "k1", "6", "1"])?;
-    is_usage(alloc, &["create", "k1", "4", "2"])?;
-    is_usage(alloc, &["create", "k1", "04", "1"])?;
-    is_usage(alloc, &["create", "k1", "4", "1", "--help"])?;
-    is_usage(alloc, &["help"])?;
+    is_usage(&rt, alloc, &[])?;
+    is_usage(&rt, alloc, &["recover"])?;
+    is_usage(&rt, alloc, &["recover", "K1"])?;
+    is_usage(&rt, alloc, &["recover", "k1", "--help"])?;
+    is_usage(&rt, alloc, &["create", "K1", "4", "1"])?;
+    is_usage(&rt, alloc, &["create", "k1", "6", "1"])?;
+    is_usage(&rt, alloc, &["create", "k1", "4", "2"])?;
+    is_usage(&rt, alloc, &["create", "k1", "04", "1"])?;
+    is_usage(&rt, alloc, &["create", "k1", "4", "1", "--help"])?;
+    is_usage(&rt, alloc, &["help"])?;
     Ok(())
 }
 
@@ -169,6 +194,7 @@ fn refuses_a_key_that_is_not_held(rt: HostRuntime) -> Result<(), Fail> {
     let alloc = rt.alloc();
     let mut shelf = MemoryShelf::new(alloc, Vec::new(alloc));
     runs(
+        &rt,
         alloc,
         &mut shelf,
         &["recover", "k9"],
@@ -188,15 +214,23 @@ fn creates_a_key_that_recover_finds(rt: HostRuntime) -> Result<(), Fail> {
     let mut shelf = MemoryShelf::new(alloc, Vec::new(alloc));
     // What a stopped create may have left.
     shelf.put(alloc, "k1.1.9.share", b"left")?;
-    runs(alloc, &mut shelf, &["create", "k1", "4", "1"], "", CREATED)?;
+    runs(
+        &rt,
+        alloc,
+        &mut shelf,
+        &["create", "k1", "4", "1"],
+        "",
+        CREATED,
+    )?;
     assert_eq!(rt; shelf.len(), 5);
     assert!(rt; shelf.get(alloc, "k1.1.9.share")?.is_none());
     // The key is the sum of the four members' constants, drawn from their seeds by another implementation.
     let text = "recover k1 4 1 period 1\n\
         member 1 ok\nmember 2 ok\nmember 3 ok\nmember 4 ok\n\
         key e39a69c229a5f7107d42fc6b86e467b611279a1c57d1dfa4befdb8b2ee23bd95\n";
-    runs(alloc, &mut shelf, &["recover", "k1"], "", text)?;
+    runs(&rt, alloc, &mut shelf, &["recover", "k1"], "", text)?;
     runs(
+        &rt,
         alloc,
         &mut shelf,
         &["create", "k1", "4", "1"],
@@ -212,15 +246,40 @@ fn changes_nothing_where_the_first_seed_fails(rt: HostRuntime) -> Result<(), Fai
     let mut shelf = MemoryShelf::new(alloc, Vec::new(alloc));
     let mut out = MemorySink::new(alloc, Vec::new(alloc));
     let status = run(
+        &rt,
         alloc,
         &words(alloc, &["create", "k1", "4", "1"])?,
         &mut shelf,
         &mut seven_seeds(alloc, &[0])?,
+        &mut ThreadCrew::new(),
+        &mut StillPace::new(),
         &mut out,
     );
     assert!(rt; matches!(status, Status::EntropyFault));
     assert_eq!(rt; shelf.len(), 0);
     assert_eq!(rt; out.bytes().len(), 0);
+    Ok(())
+}
+
+#[test]
+fn a_refused_start_changes_nothing(rt: HostRuntime) -> Result<(), Fail> {
+    let alloc = rt.alloc();
+    let mut shelf = MemoryShelf::new(alloc, Vec::new(alloc));
+    let mut crew = FailCrew::new(Vec::from_elem(alloc, 0u64, 1)?);
+    let mut pace = StillPace::new();
+    let words = ["create", "k1", "4", "1"];
+    let line = "refused 12 thread";
+    runs_with(
+        &rt, alloc, &mut shelf, &mut crew, &mut pace, &words, line, "",
+    )?;
+    assert_eq!(rt; shelf.len(), 0);
+    assert_eq!(rt; crew.faults(), 1);
+    assert_eq!(rt; crew.attended(), 0);
+    // The next starts aren't refused.
+    runs_with(
+        &rt, alloc, &mut shelf, &mut crew, &mut pace, &words, "", CREATED,
+    )?;
+    assert_eq!(rt; crew.attended(), 4);
     Ok(())
 }
 
@@ -240,14 +299,35 @@ fn a_sealed_letter_is_opened(rt: HostRuntime) -> Result<(), Fail> {
     let alloc = rt.alloc();
     let mut shelf = MemoryShelf::new(alloc, Vec::new(alloc));
     shelf.put(alloc, "letter.txt", LETTER)?;
-    runs(alloc, &mut shelf, &["create", "k1", "4", "1"], "", CREATED)?;
+    runs(
+        &rt,
+        alloc,
+        &mut shelf,
+        &["create", "k1", "4", "1"],
+        "",
+        CREATED,
+    )?;
     let words = ["seal", "k1", "letter.txt", "letter.box"];
-    runs(alloc, &mut shelf, &words, "", "seal k1 number 0 bytes 14\n")?;
+    runs(
+        &rt,
+        alloc,
+        &mut shelf,
+        &words,
+        "",
+        "seal k1 number 0 bytes 14\n",
+    )?;
     assert_eq!(rt; next_number(alloc, &mut shelf)?, 1);
     let sealed = shelf.get(alloc, "letter.box")?.ok_or("a box")?;
     assert_eq!(rt; sealed.len(), 94);
     let words = ["open", "k1", "letter.box", "out.txt"];
-    runs(alloc, &mut shelf, &words, "", "open k1 number 0 bytes 14\n")?;
+    runs(
+        &rt,
+        alloc,
+        &mut shelf,
+        &words,
+        "",
+        "open k1 number 0 bytes 14\n",
+    )?;
     let letter = shelf.get(alloc, "out.txt")?.ok_or("a document")?;
     assert_eq!(rt; letter.as_slice(), LETTER.as_slice());
     Ok(())
@@ -255,7 +335,8 @@ fn a_sealed_letter_is_opened(rt: HostRuntime) -> Result<(), Fail> {
 
 /// Runs `VERB k1 SOURCE TARGET` on a shelf, and fails where another line is answered, a text is printed or the number
 /// of names changes.
-fn refuses(
+fn refuses<R: Threads + Wait + Sync>(
+    rt: &R,
     alloc: Global,
     shelf: &mut MemoryShelf,
     verb: &str,
@@ -264,7 +345,7 @@ fn refuses(
     line: &str,
 ) -> Result<(), Fail> {
     let names = shelf.len();
-    runs(alloc, shelf, &[verb, "k1", source, target], line, "")?;
+    runs(rt, alloc, shelf, &[verb, "k1", source, target], line, "")?;
     if shelf.len() != names {
         return Err("a changed shelf".into());
     }
@@ -277,6 +358,7 @@ fn seal_and_open_refuse_in_their_order(rt: HostRuntime) -> Result<(), Fail> {
     let mut shelf = shelf_of(alloc, 16)?;
     shelf.put(alloc, "letter.txt", LETTER)?;
     refuses(
+        &rt,
         alloc,
         &mut shelf,
         "seal",
@@ -285,6 +367,7 @@ fn seal_and_open_refuse_in_their_order(rt: HostRuntime) -> Result<(), Fail> {
         "refused 4 exists",
     )?;
     refuses(
+        &rt,
         alloc,
         &mut shelf,
         "seal",
@@ -293,6 +376,7 @@ fn seal_and_open_refuse_in_their_order(rt: HostRuntime) -> Result<(), Fail> {
         "refused 3 nosuch document",
     )?;
     refuses(
+        &rt,
         alloc,
         &mut shelf,
         "open",
@@ -301,6 +385,7 @@ fn seal_and_open_refuse_in_their_order(rt: HostRuntime) -> Result<(), Fail> {
         "refused 4 exists",
     )?;
     refuses(
+        &rt,
         alloc,
         &mut shelf,
         "open",
@@ -309,6 +394,7 @@ fn seal_and_open_refuse_in_their_order(rt: HostRuntime) -> Result<(), Fail> {
         "refused 3 nosuch box",
     )?;
     refuses(
+        &rt,
         alloc,
         &mut shelf,
         "open",
@@ -323,10 +409,10 @@ fn seal_and_open_refuse_in_their_order(rt: HostRuntime) -> Result<(), Fail> {
 fn words_that_name_no_document_are_usage(rt: HostRuntime) -> Result<(), Fail> {
     let alloc = rt.alloc();
     for word in ["", "-a", "k1.now", "a.share", "a\0b"] {
-        is_usage(alloc, &["seal", "k1", word, "a.box"])?;
-        is_usage(alloc, &["open", "k1", "a.box", word])?;
+        is_usage(&rt, alloc, &["seal", "k1", word, "a.box"])?;
+        is_usage(&rt, alloc, &["open", "k1", "a.box", word])?;
     }
-    is_usage(alloc, &["seal", "k1", "a.txt"])
+    is_usage(&rt, alloc, &["seal", "k1", "a.txt"])
 }
 
 #[test]
@@ -335,11 +421,19 @@ fn a_box_with_a_changed_byte_is_refused(rt: HostRuntime) -> Result<(), Fail> {
     let mut shelf = shelf_of(alloc, 16)?;
     shelf.put(alloc, "letter.txt", LETTER)?;
     let words = ["seal", "k1", "letter.txt", "letter.box"];
-    runs(alloc, &mut shelf, &words, "", "seal k1 number 0 bytes 14\n")?;
+    runs(
+        &rt,
+        alloc,
+        &mut shelf,
+        &words,
+        "",
+        "seal k1 number 0 bytes 14\n",
+    )?;
     let mut sealed = shelf.get(alloc, "letter.box")?.ok_or("a box")?;
     *sealed.get_mut(50).ok_or("a byte")? ^= 1;
     shelf.put(alloc, "changed.box", &sealed)?;
     refuses(
+        &rt,
         alloc,
         &mut shelf,
         "open",
@@ -365,6 +459,7 @@ fn the_last_number_is_refused(rt: HostRuntime) -> Result<(), Fail> {
     };
     shelf.put(alloc, "k1.now", &write_now(alloc, &now)?)?;
     refuses(
+        &rt,
         alloc,
         &mut shelf,
         "seal",
@@ -382,6 +477,7 @@ fn a_document_of_one_byte_too_many_is_refused(rt: HostRuntime) -> Result<(), Fai
     long.resize(67108865, 0)?;
     shelf.put(alloc, "long.txt", &long)?;
     refuses(
+        &rt,
         alloc,
         &mut shelf,
         "seal",
@@ -425,17 +521,29 @@ fn shelf_with(alloc: Global, drill: &[u8]) -> Result<MemoryShelf, Fail> {
 }
 
 /// Runs words over a shelf that holds the drill `d` alone.
-fn drills(alloc: Global, texts: &[&str], drill: &str, text: &str) -> Result<(), Fail> {
+fn drills<R: Threads + Wait + Sync>(
+    rt: &R,
+    alloc: Global,
+    texts: &[&str],
+    drill: &str,
+    text: &str,
+) -> Result<(), Fail> {
     let mut shelf = shelf_with(alloc, drill.as_bytes())?;
-    runs(alloc, &mut shelf, texts, "", text)
+    runs(rt, alloc, &mut shelf, texts, "", text)
 }
 
 /// Runs `create k1 4 1 FILE` over a shelf that holds the drill `d` alone, and fails where another line is answered, a
 /// text is printed, or the shelf then holds anything else.
-fn refuses_drill(alloc: Global, file: &str, drill: &[u8], line: &str) -> Result<(), Fail> {
+fn refuses_drill<R: Threads + Wait + Sync>(
+    rt: &R,
+    alloc: Global,
+    file: &str,
+    drill: &[u8],
+    line: &str,
+) -> Result<(), Fail> {
     let mut shelf = shelf_with(alloc, drill)?;
     let words = ["create", "k1", "4", "1", file];
-    runs(alloc, &mut shelf, &words, line, "")?;
+    runs(rt, alloc, &mut shelf, &words, line, "")?;
     let held = shelf.get(alloc, "d")?.ok_or("the drill")?;
     if shelf.len() != 1 || held.as_slice() != drill {
         return Err("a changed shelf".into());
@@ -450,43 +558,43 @@ fn a_drilled_create_prints_who_was_heard_and_accepted(rt: HostRuntime) -> Result
     let text = "create k1 4 1 period 1\n\
         round 1 mask 15\nround 2 mask 15\nround 3 mask 15\nround 4 mask 15\nround 5 mask 15\n\
         accepted 20 of 20\nshares 1 3 4\n";
-    drills(alloc, &four, "2 1 skew 5", text)?;
+    drills(&rt, alloc, &four, "2 1 skew 5", text)?;
     let text = "create k1 4 1 period 1\n\
         round 1 mask 15\nround 2 mask 15\nround 3 mask 15\nround 4 mask 13\nround 5 mask 13\n\
         accepted 15 of 20\nshares 1 3 4\n";
-    drills(alloc, &four, "2 1 skew 5\n2 4 silent\n", text)?;
+    drills(&rt, alloc, &four, "2 1 skew 5\n2 4 silent\n", text)?;
     let text = "create k1 4 1 period 1\n\
         round 1 mask 15\nround 2 mask 15\nround 3 mask 15\nround 4 mask 15\nround 5 mask 15\n\
         accepted 20 of 20\nshares 1 2 4\n";
-    drills(alloc, &four, "3 3 accuse 1", text)?;
+    drills(&rt, alloc, &four, "3 3 accuse 1", text)?;
     let seven = ["create", "k1", "7", "2", "d"];
     let text = "create k1 7 2 period 1\n\
         round 1 mask 123\nround 2 mask 123\nround 3 mask 123\nround 4 mask 123\nround 5 mask 123\n\
         accepted 35 of 35\nshares 1 2 4 6 7\n";
-    drills(alloc, &seven, "3 1 silent\n5 5 veto\n", text)
+    drills(&rt, alloc, &seven, "3 1 silent\n5 5 veto\n", text)
 }
 
 #[test]
 fn a_drill_that_is_none_is_refused(rt: HostRuntime) -> Result<(), Fail> {
     let alloc = rt.alloc();
     let many = b"2 1 silent\n3 1 silent\n";
-    refuses_drill(alloc, "d", many, "refused 9 drill named 2 bound 1")?;
-    refuses_drill(alloc, "d", b"2 5 skew 1", "refused 9 drill line 1")?;
-    refuses_drill(alloc, "d", b"5 1 silent", "refused 9 drill stranger 5")?;
+    refuses_drill(&rt, alloc, "d", many, "refused 9 drill named 2 bound 1")?;
+    refuses_drill(&rt, alloc, "d", b"2 5 skew 1", "refused 9 drill line 1")?;
+    refuses_drill(&rt, alloc, "d", b"5 1 silent", "refused 9 drill stranger 5")?;
     let twice = b"# who\n2 1 silent\n2 1 garble\n";
-    refuses_drill(alloc, "d", twice, "refused 9 drill line 3")?;
-    refuses_drill(alloc, "e", b"", "refused 3 nosuch drill")
+    refuses_drill(&rt, alloc, "d", twice, "refused 9 drill line 3")?;
+    refuses_drill(&rt, alloc, "e", b"", "refused 3 nosuch drill")
 }
 
 #[test]
 fn a_drill_of_odd_bytes_is_refused(rt: HostRuntime) -> Result<(), Fail> {
     let alloc = rt.alloc();
-    refuses_drill(alloc, "d", b"2 1 silent\r\n", "refused 9 drill line 1")?;
+    refuses_drill(&rt, alloc, "d", b"2 1 silent\r\n", "refused 9 drill line 1")?;
     let greatest = b"18446744073709551615 1 silent";
     let line = "refused 9 drill stranger 18446744073709551615";
-    refuses_drill(alloc, "d", greatest, line)?;
+    refuses_drill(&rt, alloc, "d", greatest, line)?;
     let greater = b"18446744073709551616 1 silent";
-    refuses_drill(alloc, "d", greater, "refused 9 drill line 1")
+    refuses_drill(&rt, alloc, "d", greater, "refused 9 drill line 1")
 }
 
 /// A megabyte of one byte, and a text behind it.
@@ -501,11 +609,11 @@ fn megabyte(alloc: Global, byte: u8, end: &[u8]) -> Result<Vec<u8>, Fail> {
 fn a_drill_of_a_megabyte_is_refused_with_its_line(rt: HostRuntime) -> Result<(), Fail> {
     let alloc = rt.alloc();
     let one = megabyte(alloc, b'2', b"")?;
-    refuses_drill(alloc, "d", &one, "refused 9 drill line 1")?;
+    refuses_drill(&rt, alloc, "d", &one, "refused 9 drill line 1")?;
     let idle = megabyte(alloc, b'#', b"\n\n2 6 silent")?;
-    refuses_drill(alloc, "d", &idle, "refused 9 drill line 3")?;
+    refuses_drill(&rt, alloc, "d", &idle, "refused 9 drill line 3")?;
     let empty = megabyte(alloc, b'\n', b"4 2 veto\n")?;
-    refuses_drill(alloc, "d", &empty, "refused 9 drill line 1048577")
+    refuses_drill(&rt, alloc, "d", &empty, "refused 9 drill line 1048577")
 }
 
 /// What a refresh of `k1` with 4 members from period 1 prints.
@@ -517,14 +625,21 @@ const REFRESHED: &str = "refresh k1 4 1 period 2\n\
 fn a_refresh_after_a_create_keeps_the_key(rt: HostRuntime) -> Result<(), Fail> {
     let alloc = rt.alloc();
     let mut shelf = MemoryShelf::new(alloc, Vec::new(alloc));
-    runs(alloc, &mut shelf, &["create", "k1", "4", "1"], "", CREATED)?;
-    runs(alloc, &mut shelf, &["refresh", "k1"], "", REFRESHED)?;
+    runs(
+        &rt,
+        alloc,
+        &mut shelf,
+        &["create", "k1", "4", "1"],
+        "",
+        CREATED,
+    )?;
+    runs(&rt, alloc, &mut shelf, &["refresh", "k1"], "", REFRESHED)?;
     assert_eq!(rt; shelf.len(), 5);
     assert!(rt; shelf.get(alloc, "k1.2.4.share")?.is_some());
     let text = "recover k1 4 1 period 2\n\
         member 1 ok\nmember 2 ok\nmember 3 ok\nmember 4 ok\n\
         key e39a69c229a5f7107d42fc6b86e467b611279a1c57d1dfa4befdb8b2ee23bd95\n";
-    runs(alloc, &mut shelf, &["recover", "k1"], "", text)
+    runs(&rt, alloc, &mut shelf, &["recover", "k1"], "", text)
 }
 
 #[test]
@@ -535,14 +650,14 @@ fn a_drilled_member_of_a_refresh_gets_no_share(rt: HostRuntime) -> Result<(), Fa
     let text = "refresh k1 4 1 period 2\n\
         round 1 mask 13\nround 2 mask 13\nround 3 mask 13\nround 4 mask 13\nround 5 mask 13\n\
         accepted 20 of 20\nshares 1 3 4\n";
-    runs(alloc, &mut shelf, &["refresh", "k1", "d"], "", text)?;
+    runs(&rt, alloc, &mut shelf, &["refresh", "k1", "d"], "", text)?;
     let text = "recover k1 4 1 period 2\n\
         member 1 ok\nmember 2 missing\nmember 3 ok\nmember 4 ok\n\
         key 133e7f97ad4b6a1fc1bebc9e6a35d495f3de8d4df7615d75d074b69f4d1ec0c3\n";
-    runs(alloc, &mut shelf, &["recover", "k1"], "", text)?;
+    runs(&rt, alloc, &mut shelf, &["recover", "k1"], "", text)?;
     shelf.put(alloc, "d", b"4 1 silent")?;
     let line = "refused 5 sound 2 needed 3";
-    runs(alloc, &mut shelf, &["refresh", "k1", "d"], line, "")
+    runs(&rt, alloc, &mut shelf, &["refresh", "k1", "d"], line, "")
 }
 
 /// The shelf with the now file of `k1` in its last period.
@@ -584,12 +699,12 @@ fn a_refresh_of_the_last_period_is_full(rt: HostRuntime) -> Result<(), Fail> {
     let alloc = rt.alloc();
     let mut shelf = last_period(alloc)?;
     let line = "refused 5 sound 0 needed 3";
-    runs(alloc, &mut shelf, &["refresh", "k1"], line, "")?;
+    runs(&rt, alloc, &mut shelf, &["refresh", "k1"], line, "")?;
     for index in 1..5 {
         put_last_share(alloc, &mut shelf, index)?;
     }
     let line = "refused 8 full 4294967295";
-    runs(alloc, &mut shelf, &["refresh", "k1"], line, "")?;
+    runs(&rt, alloc, &mut shelf, &["refresh", "k1"], line, "")?;
     assert_eq!(rt; shelf.len(), 5);
     Ok(())
 }
@@ -598,7 +713,7 @@ fn a_refresh_of_the_last_period_is_full(rt: HostRuntime) -> Result<(), Fail> {
 fn a_refresh_turns_files_of_version_1_into_version_2(rt: HostRuntime) -> Result<(), Fail> {
     let alloc = rt.alloc();
     let mut shelf = shelf_of(alloc, 16)?;
-    runs(alloc, &mut shelf, &["refresh", "k1"], "", REFRESHED)?;
+    runs(&rt, alloc, &mut shelf, &["refresh", "k1"], "", REFRESHED)?;
     assert_eq!(rt; shelf.len(), 5);
     let Some(bytes) = shelf.get(alloc, "k1.now")? else {
         return Err("a now file".into());
@@ -609,7 +724,7 @@ fn a_refresh_turns_files_of_version_1_into_version_2(rt: HostRuntime) -> Result<
     let link = now.link.ok_or("version 2")?;
     assert_eq!(rt; link.holders, 15);
     assert!(rt; link.previous == [0; 32]);
-    runs(alloc, &mut shelf, &["refresh", "k1"], "", TWICE)
+    runs(&rt, alloc, &mut shelf, &["refresh", "k1"], "", TWICE)
 }
 
 /// What the next refresh prints.
@@ -624,12 +739,12 @@ fn a_move_keeps_the_key(rt: HostRuntime) -> Result<(), Fail> {
     let text = "move k1 4 1 to 5 1 period 2\n\
         round 1 mask 511\nround 2 mask 511\nround 3 mask 511\nround 4 mask 511\nround 5 mask 511\n\
         round 6 mask 511\naccepted 20 of 20\ncorrected none\nshares 1 2 3 4 5\n";
-    runs(alloc, &mut shelf, &["move", "k1", "5", "1"], "", text)?;
+    runs(&rt, alloc, &mut shelf, &["move", "k1", "5", "1"], "", text)?;
     assert_eq!(rt; shelf.len(), 6);
     let text = "recover k1 5 1 period 2\n\
         member 1 ok\nmember 2 ok\nmember 3 ok\nmember 4 ok\nmember 5 ok\n\
         key 133e7f97ad4b6a1fc1bebc9e6a35d495f3de8d4df7615d75d074b69f4d1ec0c3\n";
-    runs(alloc, &mut shelf, &["recover", "k1"], "", text)
+    runs(&rt, alloc, &mut shelf, &["recover", "k1"], "", text)
 }
 
 #[test]
@@ -641,11 +756,18 @@ fn a_move_corrects_a_wrong_share(rt: HostRuntime) -> Result<(), Fail> {
         round 1 mask 2047\nround 2 mask 2047\nround 3 mask 2047\nround 4 mask 2047\n\
         round 5 mask 2047\nround 6 mask 2047\n\
         accepted 20 of 20\ncorrected 1\nshares 1 2 3 4 5 6 7\n";
-    runs(alloc, &mut shelf, &["move", "k1", "7", "2", "d"], "", text)?;
+    runs(
+        &rt,
+        alloc,
+        &mut shelf,
+        &["move", "k1", "7", "2", "d"],
+        "",
+        text,
+    )?;
     let text = "recover k1 7 2 period 2\n\
         member 1 ok\nmember 2 ok\nmember 3 ok\nmember 4 ok\nmember 5 ok\nmember 6 ok\nmember 7 ok\n\
         key 133e7f97ad4b6a1fc1bebc9e6a35d495f3de8d4df7615d75d074b69f4d1ec0c3\n";
-    runs(alloc, &mut shelf, &["recover", "k1"], "", text)
+    runs(&rt, alloc, &mut shelf, &["recover", "k1"], "", text)
 }
 
 #[test]
@@ -655,7 +777,7 @@ fn a_move_of_two_wrong_shares_of_four_has_no_result(rt: HostRuntime) -> Result<(
     put_share(alloc, &mut shelf, "k1.1.1.share", 1, 11)?;
     put_share(alloc, &mut shelf, "k1.1.2.share", 2, 14)?;
     let line = "refused 6 lane 0 syndrome 1537228672809129301 384307168202282326";
-    runs(alloc, &mut shelf, &["move", "k1", "7", "2"], line, "")?;
+    runs(&rt, alloc, &mut shelf, &["move", "k1", "7", "2"], line, "")?;
     assert_eq!(rt; shelf.len(), 5);
     assert!(rt; shelf.get(alloc, "k1.1.4.share")?.is_some());
     Ok(())

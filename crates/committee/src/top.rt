@@ -4,7 +4,6 @@ ghost use Rattle.algebra61.specs.Field.{Fp};
 ghost use Rattle.algebra61.specs.Polynomial.{Polynomial};
 ghost use Rattle.sharefile.specs.declared.link.Link.{Link};
 ghost use Rattle.sharefile.specs.Files.{Now};
-ghost use Rattle.talk.specs.Shape.{move_shape, refresh_shape};
 ghost use Rattle.shelf.specs.Causes.{OnlyReads};
 ghost use Rattle.keyroom.specs.declared.document.Direction.{Direction};
 ghost use Rattle.keyroom.specs.declared.status.Status.TheVariants.{NoWord};
@@ -19,16 +18,19 @@ ghost use Rattle.keyroom.specs.Recover.{recovered_by};
 ghost use Rattle.keyroom.specs.Texts.{recover_text};
 ghost use Rattle.keyroom.specs.Work.{KeyIsOf};
 ghost use Rattle.keyroom.specs.Document.{DocumentCommandBy};
+ghost use Rattle.committee.specs.Late.{cuts_since};
 ghost use Rattle.committee.specs.Links.{first_now};
-ghost use Rattle.committee.specs.Meaning.{Given, MeansSome, MeansUnder, Means, TakesSeeds, AskForSeeds, AreEnoughFor, AreEnough, ComeToMove};
+ghost use Rattle.committee.specs.Meaning.{Given, MeansSome, MeansUnder, Means, TakesSeeds, AskForSeeds, AreEnoughFor, AreEnough, ComeToPhase};
+ghost use Rattle.committee.specs.Uncut.{IsUncut, LateInCreate, LateInRefresh, UncutCreatesAreDone, UncutRefreshesAreDone, UncutHaveOneStatus};
 ghost use Rattle.committee.specs.Agreement.{HeldOnOneLine, NewOnOneLine, CreatesOnOneLine, MadeAll};
 ghost use Rattle.committee.specs.Plain.{HeldPlain};
 ghost use Rattle.committee.specs.Begins.{PeriodsGoOn};
-ghost use Rattle.committee.specs.Kept.{IsRefreshed, SoundFiles, KeyStays, ReadsNow, RefreshesByOne, RefreshesKeepTheKey};
-ghost use Rattle.committee.specs.Moved.{IsMoved, HasNoWord, MovesCarryPolynomials, MovesNameTheirLane, SoundMovesHaveWords, MovesKeepTheKey};
+ghost use Rattle.committee.specs.Kept.{IsRefreshed, IsKept, ReadsNow, RefreshesByOne, RefreshesKeepTheKey};
+ghost use Rattle.committee.specs.Moved.{IsMoved, IsCarriedOn, LacksWord, MovesCarryPolynomials, MovesNameTheirLane, SoundMovesHaveWords, MovesKeepTheKey};
 ghost use Rattle.committee.specs.Recovery.{Honestly, document_command};
 ghost use Rattle.committee.specs.Answer.{PlansWith, Does, Completes, Writes};
 ghost use Rattle.committee.specs.Causes.{before_text, IsCounted, IsFromCommand};
+ghost use Rattle.committee.specs.Crews.{Lent, AllAttended, AllAttendedFor};
 
 use crate::create::plan_create;
 use crate::moving::plan_move;
@@ -37,38 +39,52 @@ use keyroom::{
     Command, Direction, Plan, Status, carry_out, plan_check, plan_document, plan_recover,
     read_words,
 };
+use party_crew::{Crew, Pace};
 use shelf::{Entropy, Shelf, Sink};
 use std::alloc::Global;
+use std::sync::Wait;
+use std::thread::Threads;
 
 /// What a command will do. The shelf is only asked.
-fn plan<H: Shelf, E: Entropy>(
+fn plan<H: Shelf, E: Entropy, C: Crew, Q: Pace + Send, R: Threads + Wait + Sync>(
+    rt: &R,
     alloc: Global,
     command: &Command<'_>,
     shelf: &mut H,
     entropy: &mut E,
+    crew: &mut C,
+    pace: &mut Q,
 ) -> Result<Plan, Status>
     requires { IsInRange (command_of command.now) }
     ensures reads { OnlyReads H.held H.fault_count H.calm shelf.old shelf.new }
     ensures meaning { IfSome (H.held shelf.old) (λ m.
-        PlansWith (MeansSome (command_of command.now) (record { held = m; coming = E.coming entropy.old }))
+        PlansWith (MeansSome (command_of command.now) (record { held = m; coming = E.coming entropy.old; cuts = cuts_since (Q.answered_count pace.old) (Q.answered_count pace.new) (Q.cuts_of pace.new) }))
         (TakesSeeds (command_of command.now) m) (E.coming entropy.old) (E.coming entropy.new) result) }
     ensures later { E.fault_count entropy.old ≤ E.fault_count entropy.new }
-    ensures cause { IfErr result (IsFromCommand (before_text (H.fault_count shelf.old) (E.fault_count entropy.old)) (before_text (H.fault_count shelf.new) (E.fault_count entropy.new))) }
+    ensures cause { IfErr result (IsFromCommand (before_text (H.fault_count shelf.old) (E.fault_count entropy.old) (C.fault_count crew.old)) (before_text (H.fault_count shelf.new) (E.fault_count entropy.new) (C.fault_count crew.new))) }
     ensures calm { E.calm entropy.old → AreEnoughFor (command_of command.now) (H.held shelf.old) (E.coming entropy.old) → E.calm entropy.new }
     ensures now { IfOk result (λ _. IfSome (H.held shelf.old) (ReadsNow (command_of command.now))) }
+    ensures lent { Lent C.fault_count C.attended_count C.calm crew.old crew.new }
+    ensures attended { IfOk result (λ _. AllAttended (command_of command.now) (H.held shelf.old) (C.attended_count crew.old) (C.attended_count crew.new)) }
 {
     match command {
         Command::Create {
             name,
             committee,
             drill,
-        } => plan_create(alloc, name, *committee, *drill, shelf, entropy),
-        Command::Refresh { name, drill } => plan_refresh(alloc, name, *drill, shelf, entropy),
+        } => plan_create(
+            rt, alloc, name, *committee, *drill, shelf, entropy, crew, pace,
+        ),
+        Command::Refresh { name, drill } => plan_refresh(
+            rt, alloc, name, *drill, shelf, entropy, crew, pace,
+        ),
         Command::Move {
             name,
             committee,
             drill,
-        } => plan_move(alloc, name, *committee, *drill, shelf, entropy),
+        } => plan_move(
+            rt, alloc, name, *committee, *drill, shelf, entropy, crew, pace,
+        ),
         Command::Recover { name } => plan_recover(alloc, name, shelf),
         Command::Check { name } => plan_check(alloc, name, shelf),
         Command::Seal { name, doc, target } => {
@@ -90,23 +106,31 @@ fn plan<H: Shelf, E: Entropy>(
 /// What stands after an answer is said by its cause. `Done`: all of it was done. `SinkFault`: all changes were made, and
 /// a part of the text from its front may have gone out. `ShelfFault` and `OutOfMemory`: a part of the changes from their
 /// front was made, and nothing went out. Each other answer leaves the shelf and the sink as they were. `EntropyFault`
-/// comes only where a command has come to its seeds, and each further answer is exactly what the words and the files mean.
-/// `NoWord` alone comes when seeds were taken.
-pub fn run<H: Shelf, E: Entropy, K: Sink>(
+/// comes only where a command has come to its seeds, `NoThread` only where it has taken them, and each further answer is
+/// exactly what the words and the files mean. Of these `NoWord`, and `TooFewSound` behind a phase, come when seeds were taken.
+///
+/// `TooFewSound` comes at two steps. Before the phase it comes in a refresh or a move exactly where fewer than N - T members
+/// have a valid share file and aren't drilled. Behind the phase it comes in a create, a refresh or a move exactly where
+/// fewer than N - T members of a committee are neither drilled, without a share file nor late; in a move the old committee
+/// is looked at first, and the new one has its own bound. A member is late where it isn't in some mask of the phase.
+pub fn run<H: Shelf, E: Entropy, C: Crew, Q: Pace + Send, K: Sink, R: Threads + Wait + Sync>(
+    rt: &R,
     alloc: Global,
     words: &[String],
     shelf: &mut H,
     entropy: &mut E,
+    crew: &mut C,
+    pace: &mut Q,
     out: &mut K,
 ) -> Status
     // What the words mean is done, or a part of it where the outside or memory fails.
     ensures meaning { IfSome (H.held shelf.old) (λ m.
-        Does (Means (texts words.now) (record { held = m; coming = E.coming entropy.old })) (AskForSeeds (texts words.now) m)
+        Does (Means (texts words.now) (record { held = m; coming = E.coming entropy.old; cuts = cuts_since (Q.answered_count pace.old) (Q.answered_count pace.new) (Q.cuts_of pace.new) })) (AskForSeeds (texts words.now) m)
         (record { held = H.held shelf.old; coming = E.coming entropy.old; told = K.told out.old })
         (record { held = H.held shelf.new; coming = E.coming entropy.new; told = K.told out.new }) result) }
     // Over what is calm, with enough seeds to come, it is done whole, unless memory ran out.
-    ensures complete { IfSome (H.held shelf.old) (λ m. H.calm shelf.old → E.calm entropy.old → K.calm out.old → AreEnough (texts words.now) (H.held shelf.old) (E.coming entropy.old) →
-        Completes (Means (texts words.now) (record { held = m; coming = E.coming entropy.old }))
+    ensures complete { IfSome (H.held shelf.old) (λ m. H.calm shelf.old → E.calm entropy.old → C.calm crew.old → K.calm out.old → AreEnough (texts words.now) (H.held shelf.old) (E.coming entropy.old) →
+        Completes (Means (texts words.now) (record { held = m; coming = E.coming entropy.old; cuts = cuts_since (Q.answered_count pace.old) (Q.answered_count pace.new) (Q.cuts_of pace.new) }))
         (record { held = H.held shelf.old; coming = E.coming entropy.old; told = K.told out.old })
         (record { held = H.held shelf.new; coming = E.coming entropy.new; told = K.told out.new }) result) }
     // After a create the share files of the key lie, in each lane, on one polynomial of degree at most T, whatever the
@@ -116,33 +140,34 @@ pub fn run<H: Shelf, E: Entropy, K: Sink>(
     // So do, whatever the answer, those that it has put, where it was stopped.
     ensures stopped { IfSome (H.held shelf.old) (λ old. IfSome (H.held shelf.new) (λ m.
         (name : List ℕ) (n t : ℕ) (drill : Option (List ℕ)) → ReadsAs (texts words.now) (Create name n t drill) → (link : Option Link) → NewOnOneLine (first_now name n t link) old m)) }
-    // Without a drill each share is the sum over all members of what the grids that they draw from their seeds say.
-    ensures plain { MadeAll (cause_of result) → IfSome (H.held shelf.old) (λ old. IfSome (H.held shelf.new) (λ m. IfSome (E.coming entropy.old) (λ seeds.
+    // Without a drill, and where nobody was cut, each share is the sum over all members of what the grids that they draw from
+    // their seeds say.
+    ensures plain { MadeAll (cause_of result) → IsUncut (cuts_since (Q.answered_count pace.old) (Q.answered_count pace.new) (Q.cuts_of pace.new)) → IfSome (H.held shelf.old) (λ old. IfSome (H.held shelf.new) (λ m. IfSome (E.coming entropy.old) (λ seeds.
         (name : List ℕ) (n t : ℕ) → ReadsAs (texts words.now) (Create name n t None) → (link : Option Link) → HeldPlain (first_now name n t link) (take n seeds) m))) }
     // After a refresh each new share is the old one plus, in each lane, the value of one polynomial times the member's
     // index, whatever the drilled members said.
     ensures refreshed { MadeAll (cause_of result) → IfSome (H.held shelf.old) (λ old. IfSome (H.held shelf.new) (λ m.
         (name : List ℕ) (drill : Option (List ℕ)) (before : Now) → ReadsAs (texts words.now) (Refresh name drill) → now_of name old ≡ Ok before → IsRefreshed name before old m)) }
-    // The key stays, whatever the answer, where N - T members that aren't drilled had shares on polynomials of degree at
-    // most T.
+    // A refresh leaves what stood, or makes a part of the changes that it means under the masks of its phase. The key stays,
+    // whatever the answer, where N - T members that are neither drilled nor late under these masks had shares on polynomials
+    // of degree at most T.
     ensures kept { IfSome (H.held shelf.old) (λ old. IfSome (H.held shelf.new) (λ m.
-        (name : List ℕ) (drill : Option (List ℕ)) (before : Now) (polys : List Polynomial) → ReadsAs (texts words.now) (Refresh name drill) → SoundFiles name (refresh_shape before.n before.t) drill before old polys → KeyStays name before polys old m)) }
+        (name : List ℕ) (drill : Option (List ℕ)) (before : Now) → ReadsAs (texts words.now) (Refresh name drill) →
+        (masks : List ℕ) × IsKept name drill before (E.coming entropy.old) (cuts_since (Q.answered_count pace.old) (Q.answered_count pace.new) (Q.cuts_of pace.new)) masks old m)) }
     // After a move the new share files lie, in each lane, on one polynomial. Its value at 0 is that of each polynomial that is
-    // near to what the old members shared, and one is, whatever the drilled members of both committees said.
+    // near to what the old members shared, and one is, whatever the drilled and the late members of both committees said.
     ensures moved { MadeAll (cause_of result) → IfSome (H.held shelf.old) (λ old. IfSome (H.held shelf.new) (λ m.
         (name : List ℕ) (size bound : ℕ) (drill : Option (List ℕ)) (before : Now) → ReadsAs (texts words.now) (Move name size bound drill) → now_of name old ≡ Ok before →
-        (masks : List ℕ) × IsMoved name size bound drill before (E.coming entropy.old) masks old m)) }
-    // NoWord names the least lane in which no polynomial is near to what the old members shared.
+        (masks : List ℕ) × IsMoved name size bound drill before (E.coming entropy.old) (cuts_since (Q.answered_count pace.old) (Q.answered_count pace.new) (Q.cuts_of pace.new)) masks old m)) }
+    // NoWord names the least lane in which no polynomial is near to what the old members shared. It is never answered where N - T
+    // members that are neither drilled nor late under the masks of the phase have shares on polynomials of degree at most T.
     ensures no_word { IfSome (H.held shelf.old) (λ m. (name : List ℕ) (size bound : ℕ) (drill : Option (List ℕ)) (lane : ℕ) (syndrome : List Fp) →
         ReadsAs (texts words.now) (Move name size bound drill) → result ≡ NoWord lane syndrome →
-        (masks : List ℕ) × HasNoWord name size bound drill (E.coming entropy.old) masks m lane syndrome) }
-    // It is never answered where N - T members that aren't drilled have shares on polynomials of degree at most T.
-    ensures word { IfSome (H.held shelf.old) (λ m. (name : List ℕ) (size bound : ℕ) (drill : Option (List ℕ)) (before : Now) (polys : List Polynomial) (lane : ℕ) (syndrome : List Fp) →
-        ReadsAs (texts words.now) (Move name size bound drill) → SoundFiles name (move_shape before.n before.t size bound) drill before m polys → result ≢ NoWord lane syndrome) }
-    // Then the key stays in a move, whatever the answer.
+        (masks : List ℕ) × LacksWord name size bound drill (E.coming entropy.old) (cuts_since (Q.answered_count pace.old) (Q.answered_count pace.new) (Q.cuts_of pace.new)) masks m lane syndrome) }
+    // A move leaves what stood, or makes a part of its changes, and the key stays as in a refresh.
     ensures carried { IfSome (H.held shelf.old) (λ old. IfSome (H.held shelf.new) (λ m.
-        (name : List ℕ) (size bound : ℕ) (drill : Option (List ℕ)) (before : Now) (polys : List Polynomial) → ReadsAs (texts words.now) (Move name size bound drill) →
-        SoundFiles name (move_shape before.n before.t size bound) drill before old polys → KeyStays name before polys old m)) }
+        (name : List ℕ) (size bound : ℕ) (drill : Option (List ℕ)) (before : Now) → ReadsAs (texts words.now) (Move name size bound drill) →
+        (masks : List ℕ) × IsCarriedOn name size bound drill before (E.coming entropy.old) (cuts_since (Q.answered_count pace.old) (Q.answered_count pace.new) (Q.cuts_of pace.new)) masks old m)) }
     // Any N - T honest share files are enough, whatever the other files are: the key that is recovered, under which a
     // document is sealed or opened, is what they say, and so are the members' states.
     ensures honest { IfSome (H.held shelf.old) (λ m. (name : List ℕ) (now : Now) (polys : List Polynomial) → HonestFiles name now m polys →
@@ -154,30 +179,54 @@ pub fn run<H: Shelf, E: Entropy, K: Sink>(
     // Usage is answered exactly where the words are no command.
     ensures usage { (result ≡ Status.Usage) ↔ IsUsage (texts words.now) }
     // No count of faults falls, and a fault comes only where its count rose in this call.
-    ensures counted { IsCounted (record { shelf = H.fault_count shelf.old; entropy = E.fault_count entropy.old; sink = K.fault_count out.old })
-        (record { shelf = H.fault_count shelf.new; entropy = E.fault_count entropy.new; sink = K.fault_count out.new }) (cause_of result) }
+    ensures counted { IsCounted (record { shelf = H.fault_count shelf.old; entropy = E.fault_count entropy.old; crew = C.fault_count crew.old; sink = K.fault_count out.old })
+        (record { shelf = H.fault_count shelf.new; entropy = E.fault_count entropy.new; crew = C.fault_count crew.new; sink = K.fault_count out.new }) (cause_of result) }
+    // After a command with a phase that made all its changes, a member attended on each of its seats.
+    ensures attended { MadeAll (cause_of result) → AllAttendedFor (texts words.now) (H.held shelf.old) (C.attended_count crew.old) (C.attended_count crew.new) }
+    ensures attended_later { C.attended_count crew.old ≤ C.attended_count crew.new }
     // What is calm stays so, the entropy where it tells enough seeds for what the command comes to.
     ensures shelf_calm { H.calm shelf.old → H.calm shelf.new }
     ensures entropy_calm { E.calm entropy.old → AreEnough (texts words.now) (H.held shelf.old) (E.coming entropy.old) → E.calm entropy.new }
+    ensures crew_calm { C.calm crew.old → C.calm crew.new }
     ensures sink_calm { K.calm out.old → K.calm out.new }
     // Over what is calm no fault is answered.
     ensures no_shelf_fault { H.calm shelf.old → cause_of result ≢ cause.Shelf }
     ensures no_entropy_fault { E.calm entropy.old → AreEnough (texts words.now) (H.held shelf.old) (E.coming entropy.old) → cause_of result ≢ cause.Entropy }
+    ensures no_crew_fault { C.calm crew.old → cause_of result ≢ cause.Crew }
     ensures no_sink_fault { K.calm out.old → cause_of result ≢ cause.Sink }
 {
     let Some(command) = read_words(words) else {
         return Status::Usage;
     };
-    match plan(alloc, &command, shelf, entropy) {
+    match plan(rt, alloc, &command, shelf, entropy, crew, pace) {
         Ok(plan) => carry_out(alloc, &plan, shelf, out),
         Err(status) => status,
     }
 }
 
-/// What the words and the outside mean has one status, whether or not the seeds to come are told, but for a move that comes to
-/// its phase: whether a seat that posts late is in a mask may decide between `Done` and `NoWord`.
+/// What the words and the outside mean has one status, whether or not the seeds to come are told, but for a command that comes
+/// to its phase: who is cut and late may decide between `Done` and `TooFewSound`, and in a move between these and `NoWord`.
 pub fn one_status()
-    ensures { (words : List (List ℕ)) (given : Given) (a b : Outcome) → Means words given a → Means words given b → (a.status ≡ b.status) ⊎ ComeToMove words given.held }
+    ensures { (words : List (List ℕ)) (given : Given) (a b : Outcome) → Means words given a → Means words given b → (a.status ≡ b.status) ⊎ ComeToPhase words given.held }
+{}
+
+/// Where nobody is cut it has one status, but for a move that comes to its phase: whether a drilled seat that posts late is in
+/// a mask may decide between `Done` and `NoWord`.
+pub fn one_status_where_nobody_is_cut()
+    ensures { UncutHaveOneStatus }
+{}
+
+/// A seat that is late was cut in some round of the phase.
+pub fn who_is_late_was_cut()
+    ensures create { LateInCreate }
+    ensures refresh { LateInRefresh }
+{}
+
+/// Where nobody is cut nobody is late, so a create or a refresh that comes to its phase is done: `TooFewSound` comes behind
+/// the phase only where members were cut.
+pub fn nobody_is_late_uncut()
+    ensures create { UncutCreatesAreDone }
+    ensures refresh { UncutRefreshesAreDone }
 {}
 
 /// What the words and the outside mean under the masks of the rounds of all phases is one outcome, where the seeds to come
@@ -204,15 +253,15 @@ pub fn a_refresh_adds_shares_of_zero()
     ensures { RefreshesByOne }
 {}
 
-/// A refresh keeps the key: where N - T members that aren't drilled have valid share files that lie on polynomials of
-/// degree at most T, so do N - T members' after each part of its changes from the front, and the values at 0 are the same.
+/// A refresh keeps the key: where N - T members that are neither drilled nor late have valid share files that lie on polynomials
+/// of degree at most T, so do N - T members' after each part of its changes from the front, and the values at 0 are the same.
 pub fn a_refresh_keeps_the_key()
     ensures { RefreshesKeepTheKey }
 {}
 
 /// A move carries polynomials: in each lane some polynomial of degree at most T differs from what the old members shared at
 /// no more than T of them, and for each that does the new share files lie on one polynomial of degree at most U with the
-/// same value at 0. What a member with a valid share file shared is its share, where no order names it.
+/// same value at 0. What a member with a valid share file shared is its share, where no order names it and it isn't late.
 pub fn a_move_carries_polynomials()
     ensures { MovesCarryPolynomials }
 {}
@@ -223,14 +272,14 @@ pub fn a_move_without_a_word_names_its_lane()
     ensures { MovesNameTheirLane }
 {}
 
-/// No move is so refused where N - T members that aren't drilled have valid share files that lie on polynomials of degree at
-/// most T.
+/// No move is so refused where N - T members that are neither drilled nor late have valid share files that lie on polynomials
+/// of degree at most T.
 pub fn a_move_of_sound_files_has_a_word()
     ensures { SoundMovesHaveWords }
 {}
 
-/// A move keeps the key: where N - T members that aren't drilled have valid share files that lie on polynomials of degree
-/// at most T, the valid share files of the committee whose now file is held lie on polynomials with the same values at 0,
+/// A move keeps the key: where N - T members that are neither drilled nor late have valid share files that lie on polynomials of
+/// degree at most T, the valid share files of the committee whose now file is held lie on polynomials with the same values at 0,
 /// all but T or U of them, after each part of the changes from the front.
 pub fn a_move_keeps_the_key()
     ensures { MovesKeepTheKey }

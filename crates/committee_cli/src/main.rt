@@ -1,16 +1,24 @@
-//! The program over the current folder, the system's entropy and standard output.
+//! The program over the current folder, the system's entropy, threads of its own and standard output.
 #![tactic(auto)]
 
 use committee::{Status, run};
+use crews::ThreadCrew;
 use keyroom::{Command, read_words};
+use paces::TurnPace;
 use shelf::{DeviceEntropy, FolderShelf, OutSink};
 use std::alloc::Global;
 use std::io::ErrorKind;
 use std::process::ExitCode;
+use std::sync::Wait;
+use std::thread::Threads;
 use std::{env, io};
 
 /// Four megabytes: more than a phase frees at a time, and little beside a document.
 const LARGE_BLOCK: usize = 4194304;
+
+/// How often a round is looked at before the seats that are missing in it are cut. Between two looks the program sleeps for a
+/// moment, so this is some days.
+const TURNS: u64 = 4294967296;
 
 /// The words of the command line, without the program's own name.
 fn words(rt: &HostRuntime) -> io::Result<Vec<String>> {
@@ -45,10 +53,10 @@ fn keep_freed_memory(alloc: Global) {
     let _ = Vec::<u8>::with_capacity(alloc, LARGE_BLOCK);
 }
 
-/// Runs the command over the real shelf, entropy and sink. Words that aren't UTF-8 are no command.
-/// The folder stays locked until this ends.
-fn status_of(rt: &HostRuntime) -> Status {
-    let words = match words(rt) {
+/// Runs the command over the real shelf, entropy, crew and sink. Words that aren't UTF-8 are no command.
+/// The folder stays locked until this ends. The runtime is handed in twice: for files and streams, and for threads.
+fn status_of<R: Threads + Wait + Sync>(host: &HostRuntime, rt: &R) -> Status {
+    let words = match words(host) {
         Ok(words) => words,
         Err(error) if error.kind() == ErrorKind::OutOfMemory => return Status::OutOfMemory,
         Err(_) => return Status::Usage,
@@ -56,17 +64,28 @@ fn status_of(rt: &HostRuntime) -> Status {
     let Some(command) = read_words(&words) else {
         return Status::Usage;
     };
-    let Ok(mut shelf) = folder_for(rt, &command) else {
+    let Ok(mut shelf) = folder_for(host, &command) else {
         return Status::ShelfFault;
     };
-    let mut entropy = DeviceEntropy::new(rt);
-    let mut out = OutSink::new(io::writer(rt));
-    run(rt.alloc(), &words, &mut shelf, &mut entropy, &mut out)
+    let mut entropy = DeviceEntropy::new(host);
+    let mut out = OutSink::new(io::writer(host));
+    let mut crew = ThreadCrew::new();
+    let mut pace = TurnPace::new(TURNS);
+    run(
+        rt,
+        host.alloc(),
+        &words,
+        &mut shelf,
+        &mut entropy,
+        &mut crew,
+        &mut pace,
+        &mut out,
+    )
 }
 
 fn main(rt: HostRuntime) -> ExitCode {
     keep_freed_memory(rt.alloc());
-    let status = status_of(&rt);
+    let status = status_of(&rt, &rt);
     if status.code() != 0 {
         if let Ok(line) = status.line(rt.alloc()) {
             let _ = eprintln!(rt; "{line}");

@@ -1,7 +1,7 @@
 -- What is said of an answer, weakened, and which causes the answers of a step have.
 use Rattle.std.proofs.Common.{◌≡◌, ℕ, ◌≤◌, Result, Ok, Err, IfErr, ap, arith}
 use Rattle.keyroom.specs.declared.status.Status.{Status}
-use Rattle.keyroom.specs.Causes.{Cause, Done, Refusal, Shelf, Entropy, Sink, Memory, cause_of, IsOfShelf, IsOfPlan, IsFromShelf, IsFromPlan}
+use Rattle.keyroom.specs.Causes.{Cause, Done, Refusal, Shelf, Entropy, Crew, Sink, Memory, cause_of, IsOfShelf, IsOfPlan, IsFromShelf, IsFromPlan}
 use Rattle.keyroom.specs.Outcome.{AnswersAs}
 
 pub answers_weaker : {X Y : Type 0} (view : X → Y) (P Q : Result Y Status → Type 0) (r : Result X Status) → ((end : Result Y Status) → P end → Q end) → AnswersAs view P r → AnswersAs view Q r
@@ -13,6 +13,7 @@ plan_cause Done by = absurd by
 plan_cause Refusal by = absurd by
 plan_cause Shelf by = tt
 plan_cause Entropy by = absurd by
+plan_cause Crew by = absurd by
 plan_cause Sink by = absurd by
 plan_cause Memory by = tt
 
@@ -21,6 +22,7 @@ never_refusal Done by e = by
 never_refusal Refusal by e = by
 never_refusal Shelf by e = cc
 never_refusal Entropy by e = by
+never_refusal Crew by e = by
 never_refusal Sink by e = by
 never_refusal Memory by e = cc
 

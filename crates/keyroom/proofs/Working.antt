@@ -29,7 +29,7 @@ use Rattle.keyroom.specs.declared.recover.Recovered.{Recovered}
 use Rattle.keyroom.specs.declared.steps.Found.{Found}
 use Rattle.keyroom.specs.declared.document.Direction.{Direction}
 use Rattle.keyroom.specs.declared.document.Direction.TheVariants.{Sealing, Opening}
-use Rattle.keyroom.specs.Causes.{Cause, Done, Refusal, Shelf, Entropy, Sink, Memory, cause_of, IsOfShelf, IsOfPlan, IsFromShelf, IsFromPlan}
+use Rattle.keyroom.specs.Causes.{Cause, Done, Refusal, Shelf, Entropy, Crew, Sink, Memory, cause_of, IsOfShelf, IsOfPlan, IsFromShelf, IsFromPlan}
 use Rattle.keyroom.specs.Outcome.{Then}
 use Rattle.keyroom.specs.Answer.{IsPartWay}
 use Rattle.keyroom.specs.Names.{now_name}
@@ -51,6 +51,7 @@ module _ (means : Result Work Status → Type 0) (old new : Option Held) where
   refused_by s Refusal e h by same = (h e, same)
   refused_by s Shelf e h by same = inl same
   refused_by s Entropy e h by same = absurd by
+  refused_by s Crew e h by same = absurd by
   refused_by s Sink e h by same = absurd by
   refused_by s Memory e h by same = inl same
 
@@ -63,6 +64,7 @@ module _ (means : Result Work Status → Type 0) (old new : Option Held) where
   part_by work is s Refusal by f = absurd by
   part_by work is s Shelf by f = inr (work, is, f)
   part_by work is s Entropy by f = absurd by
+  part_by work is s Crew by f = absurd by
   part_by work is s Sink by f = absurd by
   part_by work is s Memory by f = inr (work, is, f)
 
@@ -80,6 +82,7 @@ module _ (P Q : Result Work Status → Type 0) (old new : Option Held) (weaker :
   stops_weaker s Shelf (inl same) = inl same
   stops_weaker s Shelf (inr h) = inr (h.0, weaker (Ok h.0) h.1, h.2)
   stops_weaker s Entropy h = h
+  stops_weaker s Crew h = h
   stops_weaker s Sink h = h
   stops_weaker s Memory (inl same) = inl same
   stops_weaker s Memory (inr h) = inr (h.0, weaker (Ok h.0) h.1, h.2)

@@ -1,6 +1,6 @@
 -- Why an answer came: what stands after an answer is said by its cause.
 use Rattle.std.specs.Prelude.{◌≡◌, ◌≢◌, ℕ}
-use Rattle.shelf.specs.Causes.{Rose}
+use Rattle.counters.specs.Counts.{Rose}
 use Rattle.keyroom.specs.declared.status.Status.{Status}
 use Rattle.keyroom.specs.declared.status.Status.TheVariants as status
 use Rattle.keyroom.specs.declared.status.Status.TheVariants.{Usage}
@@ -11,6 +11,7 @@ pub data Cause : Type 0 where
   Refusal : Cause
   Shelf : Cause
   Entropy : Cause
+  Crew : Cause
   Sink : Cause
   Memory : Cause
 
@@ -30,6 +31,7 @@ cause_of (status.BadNow fault) = Refusal
 cause_of (status.TooLong length) = Refusal
 cause_of status.ShelfFault = Shelf
 cause_of status.EntropyFault = Entropy
+cause_of status.NoThread = Crew
 cause_of status.SinkFault = Sink
 cause_of status.OutOfMemory = Memory
 

@@ -5,7 +5,7 @@ use Rattle.algebra61.specs.Field.{Fp}
 use Rattle.sharefile.specs.Reading.{number_of}
 use Rattle.docvault.specs.Opening as opening
 use Rattle.keyroom.specs.declared.status.Status.{Status}
-use Rattle.keyroom.specs.declared.status.Status.TheVariants.{Done, Usage, NoSuch, Exists, TooFewSound, NoKey, NoWord, BadBox, Full, BadDrill, ShelfFault, EntropyFault, SinkFault, OutOfMemory, BadNow, TooLong}
+use Rattle.keyroom.specs.declared.status.Status.TheVariants.{Done, Usage, NoSuch, Exists, TooFewSound, NoKey, NoWord, BadBox, Full, BadDrill, ShelfFault, EntropyFault, NoThread, SinkFault, OutOfMemory, BadNow, TooLong}
 use Rattle.keyroom.specs.declared.status.What.{What}
 use Rattle.keyroom.specs.declared.status.What.TheVariants.{Now, Drill, Document, Box}
 use Rattle.drillbook.specs.declared.fault.DrillFault.{DrillFault}
@@ -25,6 +25,7 @@ code_of (Full number) = 8
 code_of (BadDrill fault) = 9
 code_of ShelfFault = 10
 code_of EntropyFault = 11
+code_of NoThread = 12
 code_of SinkFault = 13
 code_of OutOfMemory = 14
 code_of (BadNow fault) = 15
@@ -62,6 +63,7 @@ status_line (Full number) = codes "refused 8 full " ++ decimal number
 status_line (BadDrill fault) = codes "refused 9 drill " ++ drill_text fault
 status_line ShelfFault = codes "refused 10 shelf"
 status_line EntropyFault = codes "refused 11 entropy"
+status_line NoThread = codes "refused 12 thread"
 status_line SinkFault = codes "refused 13 sink"
 status_line OutOfMemory = codes "refused 14 memory"
 status_line (BadNow fault) = codes "refused 15 now " ++ decimal (number_of fault)

@@ -1,6 +1,7 @@
 //! What a command will do, made before anything is changed.
 ghost use Rattle.std.specs.Prelude.{◌≡◌, ◌≤◌, OnOk, OnErr, string_bytes};
-ghost use Rattle.shelf.specs.Causes.{Makes, HasCause, Rose};
+ghost use Rattle.shelf.specs.Causes.{Makes, HasCause};
+ghost use Rattle.counters.specs.Counts.{Rose};
 ghost use Rattle.keyroom.specs.Causes.{cause_of};
 ghost use Rattle.keyroom.specs.Causes as cause;
 ghost use Rattle.keyroom.specs.Changes.{change_of, changes_of};

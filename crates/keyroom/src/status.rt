@@ -36,7 +36,8 @@ pub enum Status {
     NoSuch { what: What },
     /// What would be made is held already.
     Exists,
-    /// So few members have a valid share file and aren't drilled. A refresh and a move need N - T, which is `needed`.
+    /// So few members are left: in a refresh or a move so few have a valid share file and aren't drilled, and behind any
+    /// phase so few are neither drilled, without a share file nor late. The committee needs N - T, which is `needed`.
     TooFewSound { sound: u32, needed: u32 },
     /// The files have no nearest polynomial in this lane, the least such lane.
     NoKey { lane: u32 },
@@ -53,6 +54,8 @@ pub enum Status {
     ShelfFault,
     /// The source of seeds failed, and its count of faults rose.
     EntropyFault,
+    /// The crew was refused a thread, and its count of faults rose.
+    NoThread,
     /// The sink failed, and its count of faults rose.
     SinkFault,
     /// Memory ran out.
@@ -159,6 +162,7 @@ impl Status {
             Status::BadDrill { .. } => 9,
             Status::ShelfFault => 10,
             Status::EntropyFault => 11,
+            Status::NoThread => 12,
             Status::SinkFault => 13,
             Status::OutOfMemory => 14,
             Status::BadNow { .. } => 15,
@@ -188,6 +192,7 @@ impl Status {
             Status::BadDrill { fault } => drill_line(alloc, *fault),
             Status::ShelfFault => Ok(format!(in alloc; "refused 10 shelf")?),
             Status::EntropyFault => Ok(format!(in alloc; "refused 11 entropy")?),
+            Status::NoThread => Ok(format!(in alloc; "refused 12 thread")?),
             Status::SinkFault => Ok(format!(in alloc; "refused 13 sink")?),
             Status::OutOfMemory => Ok(format!(in alloc; "refused 14 memory")?),
             Status::BadNow { fault } => {

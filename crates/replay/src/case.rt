@@ -23,6 +23,10 @@ pub enum Given {
     ShelfFails(Vec<u64>),
     /// Numbers of the entropy's calls that fail.
     EntropyFails(Vec<u64>),
+    /// Numbers of the crew's starts that are refused.
+    CrewFails(Vec<u64>),
+    /// A round and a seat that is cut in it.
+    Cut((u32, u32)),
     /// Numbers of the sink's calls that fail.
     SinkFails(Vec<u64>),
 }
@@ -37,6 +41,8 @@ pub struct Case {
     pub held: Vec<File>,
     pub shelf_fails: Vec<u64>,
     pub entropy_fails: Vec<u64>,
+    pub crew_fails: Vec<u64>,
+    pub cut: Vec<(u32, u32)>,
     pub sink_fails: Vec<u64>,
 }
 
@@ -50,6 +56,8 @@ impl Case {
             held: Vec::new(alloc),
             shelf_fails: Vec::new(alloc),
             entropy_fails: Vec::new(alloc),
+            crew_fails: Vec::new(alloc),
+            cut: Vec::new(alloc),
             sink_fails: Vec::new(alloc),
         }
     }
@@ -65,6 +73,8 @@ impl Case {
             Given::Held(file) => self.held.push(file)?,
             Given::ShelfFails(numbers) => self.shelf_fails.extend_from_slice(&numbers)?,
             Given::EntropyFails(numbers) => self.entropy_fails.extend_from_slice(&numbers)?,
+            Given::CrewFails(numbers) => self.crew_fails.extend_from_slice(&numbers)?,
+            Given::Cut(pair) => self.cut.push(pair)?,
             Given::SinkFails(numbers) => self.sink_fails.extend_from_slice(&numbers)?,
         }
         Ok(())

@@ -5,9 +5,13 @@ use crate::digits::digits_of;
 use crate::fault::Fault;
 use crate::listed::ListedShelf;
 use committee::run;
+use crews::FailCrew;
+use paces::ScriptPace;
 use shelf::{Entropy, MemoryEntropy, MemorySink};
 use std::alloc::Global;
 use std::io::{self, Write};
+use std::sync::Wait;
+use std::thread::Threads;
 
 /// What a command came to.
 #[derive(Drop)]
@@ -25,12 +29,23 @@ pub struct Ending {
 
 impl Ending {
     /// Runs the command of a case.
-    pub fn of(alloc: Global, case: &Case) -> Result<Self, Fault> {
+    pub fn of<R: Threads + Wait + Sync>(rt: &R, alloc: Global, case: &Case) -> Result<Self, Fault> {
         let mut shelf = ListedShelf::new(alloc, &case.held, &case.shelf_fails)?;
         let mut entropy = entropy_of(case)?;
+        let mut crew = FailCrew::new(case.crew_fails.clone()?);
+        let mut pace = ScriptPace::new(case.cut.clone()?);
         let mut sink = MemorySink::new(alloc, case.sink_fails.clone()?);
         let words = case.words.as_deref().unwrap_or(&[]);
-        let status = run(alloc, words, &mut shelf, &mut entropy, &mut sink);
+        let status = run(
+            rt,
+            alloc,
+            words,
+            &mut shelf,
+            &mut entropy,
+            &mut crew,
+            &mut pace,
+            &mut sink,
+        );
         Ok(Ending {
             code: status.code(),
             line: status.line(alloc)?,

@@ -3,7 +3,7 @@
 use crate::case::{File, Given};
 use crate::digits::{read_digits, read_seed};
 use crate::fault::Fault;
-use decimals::read_u64;
+use decimals::{read_u32, read_u64};
 use std::alloc::{AllocError, Global};
 
 /// One line of the input.
@@ -57,6 +57,8 @@ fn given_of(alloc: Global, first: &str, rest: &[&str]) -> Result<Given, Fault> {
         "held" => held_of(alloc, rest),
         "shelf_fails" => Ok(Given::ShelfFails(numbers(alloc, rest)?)),
         "entropy_fails" => Ok(Given::EntropyFails(numbers(alloc, rest)?)),
+        "crew_fails" => Ok(Given::CrewFails(numbers(alloc, rest)?)),
+        "cut" => cut_of(rest),
         "sink_fails" => Ok(Given::SinkFails(numbers(alloc, rest)?)),
         _ => Err(Fault::OtherForm),
     }
@@ -79,6 +81,16 @@ fn numbers(alloc: Global, words: &[&str]) -> Result<Vec<u64>, Fault> {
         numbers.push(number)?;
     }
     Ok(numbers)
+}
+
+fn cut_of(rest: &[&str]) -> Result<Given, Fault> {
+    let [round, seat] = rest else {
+        return Err(Fault::OtherForm);
+    };
+    match (read_u32(round.as_bytes()), read_u32(seat.as_bytes())) {
+        (Some(round), Some(seat)) => Ok(Given::Cut((round, seat))),
+        _ => Err(Fault::OtherForm),
+    }
 }
 
 fn seed_of(alloc: Global, rest: &[&str]) -> Result<Given, Fault> {

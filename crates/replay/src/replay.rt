@@ -7,6 +7,8 @@ use crate::line::{Line, read_line};
 use anyhow::{Result, anyhow, ensure};
 use std::alloc::Global;
 use std::io::{BufRead, Write};
+use std::sync::Wait;
+use std::thread::Threads;
 
 /// The cases of an input, while they are read.
 #[derive(Drop)]
@@ -24,10 +26,15 @@ impl<'a, W: Write> Replay<'a, W> {
 
     /// Reads all lines, runs each case at its end, and writes what became of it. It stops at the first line of another
     /// form, with the line's number; an end of the input within a case is one too.
-    pub fn read_all<R: BufRead + Drop>(mut self, alloc: Global, input: R) -> Result<()> {
+    pub fn read_all<B: BufRead + Drop, R: Threads + Wait + Sync>(
+        mut self,
+        rt: &R,
+        alloc: Global,
+        input: B,
+    ) -> Result<()> {
         let mut number = 1u64;
         for line in input.split(alloc, b'\n') {
-            if let Err(error) = self.take(alloc, &line?) {
+            if let Err(error) = self.take(rt, alloc, &line?) {
                 return Err(anyhow!("line {number}: {error}"));
             }
             number = number.saturating_add(1);
@@ -36,12 +43,17 @@ impl<'a, W: Write> Replay<'a, W> {
         Ok(())
     }
 
-    fn take(&mut self, alloc: Global, bytes: &[u8]) -> Result<()> {
+    fn take<R: Threads + Wait + Sync>(
+        &mut self,
+        rt: &R,
+        alloc: Global,
+        bytes: &[u8],
+    ) -> Result<()> {
         match read_line(alloc, bytes)? {
             Line::Nothing => Ok(()),
             Line::Case { label } => Ok(self.begin(alloc, label)?),
             Line::Given(given) => Ok(self.give(given)?),
-            Line::End => self.end(alloc),
+            Line::End => self.end(rt, alloc),
         }
     }
 
@@ -60,11 +72,11 @@ impl<'a, W: Write> Replay<'a, W> {
         }
     }
 
-    fn end(&mut self, alloc: Global) -> Result<()> {
+    fn end<R: Threads + Wait + Sync>(&mut self, rt: &R, alloc: Global) -> Result<()> {
         let Some(case) = self.open.take() else {
             return Err(Fault::OtherForm.into());
         };
-        let ending = Ending::of(alloc, &case)?;
+        let ending = Ending::of(rt, alloc, &case)?;
         writeln!(self.out, "case {}", case.label)?;
         ending.write(alloc, self.out)?;
         writeln!(self.out, "end")?;

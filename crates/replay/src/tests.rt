@@ -6,7 +6,7 @@ use std::test::Fail;
 #[test]
 fn refuses_lines_of_another_form(rt: HostRuntime) -> Result<(), Fail> {
     let alloc = rt.alloc();
-    let refused: [&[u8]; 22] = [
+    let refused: [&[u8]; 24] = [
         b" ",
         b"End",
         b"end ",
@@ -28,7 +28,9 @@ fn refuses_lines_of_another_form(rt: HostRuntime) -> Result<(), Fail> {
         b"shelf_fails 01",
         b"entropy_fails +1",
         b"sink_fails 18446744073709551616",
-        b"crew_fails 0",
+        b"crew_fails 00",
+        b"cut 1",
+        b"cut 1 4294967296",
     ];
     for line in refused {
         assert!(rt; matches!(read_line(alloc, line), Err(Fault::OtherForm)));
@@ -49,7 +51,7 @@ fn stops_at_the_first_line_of_another_form(rt: HostRuntime) -> Result<(), Fail> 
     ];
     for (input, wanted) in inputs {
         let mut out = Vec::new(alloc);
-        let Err(error) = Replay::new(&mut out).read_all(alloc, input) else {
+        let Err(error) = Replay::new(&mut out).read_all(&rt, alloc, input) else {
             return Err("an answer".into());
         };
         assert!(rt; error.to_string(alloc)?.as_str() == wanted);

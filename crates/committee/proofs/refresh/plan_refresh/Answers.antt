@@ -4,25 +4,26 @@ use Rattle.keyroom.specs.Words.{Refresh}
 use Rattle.committee.specs.Phase.{standing_of}
 use Rattle.committee.specs.Refresh.{Refreshes, refresh_asked}
 use Rattle.committee.specs.Standing.{seeds_for}
-use Rattle.committee.proofs.Asked.{refresh_phased, planned_told, refused_told, enough_here, from_entropy}
+use Rattle.committee.proofs.Asked.{refresh_phased, planned_told, refused_told, enough_here, from_seeds}
+use Rattle.committee.proofs.Attending.{attended_one}
 use Rattle.committee.proofs.GoingOn.{known_now}
 use Rattle.committee.proofs.Holdings.{few_seeds}
-use Rattle.committee.proofs.Keeping.{reads_now}
+use Rattle.committee.proofs.Keeping.{reads_now, refresh_setting}
 use Rattle.committee.proofs.refresh.plan_refresh.Goals as goal
 
 pub returns-in_err-asked-clause-meaning : goal.returns-in_err-asked-clause-meaning
 returns-in_err-asked-clause-meaning g c =
     let p = err_from_is_err_and c.from_residual.result c.from_residual.ensures.1 in
     rw (p.1, p.2) (refused_told (Refresh c.args.name.now (text_of c.args.drill)) (refresh_asked c.args.name.now (text_of c.args.drill)) Refreshes seeds_for (refresh_phased c.args.name.now (text_of c.args.drill))
-    (g.H.Shelf.held c.args.shelf.now) (g.E.Entropy.coming c.args.entropy.now) _ _ c.in_err-asked.field-0.0 c.in_err-asked.ensures.gives c.in_err-asked.ensures.cause)
+    (g.H.Shelf.held c.args.shelf.now) (g.E.Entropy.coming c.args.entropy.now) _ _ _ c.in_err-asked.field-0.0 c.in_err-asked.ensures.gives c.in_err-asked.ensures.cause)
 
 pub returns-clause-meaning : goal.returns-clause-meaning
 returns-clause-meaning g c =
     planned_told (Refresh c.args.name.now (text_of c.args.drill)) (refresh_asked c.args.name.now (text_of c.args.drill)) Refreshes seeds_for (refresh_phased c.args.name.now (text_of c.args.drill))
-    (g.H.Shelf.held c.args.shelf.now) (g.E.Entropy.coming c.args.entropy.now) _ (standing_of c.in_ok-asked.asked) c.plan_with.result c.in_ok-asked.ensures.gives c.plan_with.ensures.meaning
+    (g.H.Shelf.held c.args.shelf.now) (g.E.Entropy.coming c.args.entropy.now) _ _ (standing_of c.in_ok-asked.asked) c.plan_with.result c.in_ok-asked.ensures.gives c.plan_with.ensures.meaning
 
 pub returns-clause-cause : goal.returns-clause-cause
-returns-clause-cause g c = from_entropy _ _ _ _ c.plan_with.result c.in_ok-asked.ensures.reads.later c.plan_with.ensures.later c.plan_with.ensures.cause
+returns-clause-cause g c = from_seeds _ _ _ _ _ _ c.plan_with.result c.in_ok-asked.ensures.reads.later c.plan_with.ensures.later c.plan_with.ensures.lent.faults c.plan_with.ensures.cause
 
 pub returns-clause-calm : goal.returns-clause-calm
 returns-clause-calm g c = λ calm enough. c.plan_with.ensures.calm calm
@@ -31,3 +32,7 @@ returns-clause-calm g c = λ calm enough. c.plan_with.ensures.calm calm
 
 pub returns-clause-now : goal.returns-clause-now
 returns-clause-now g c = known_now c.plan_with.result (reads_now c.args.name.now (text_of c.args.drill) (g.H.Shelf.held c.args.shelf.now) (standing_of c.in_ok-asked.asked) c.in_ok-asked.ensures.gives c.in_ok-asked.ensures.ready)
+
+pub returns-clause-attended : goal.returns-clause-attended
+returns-clause-attended g c =
+    attended_one refresh_setting c.args.name.now (text_of c.args.drill) _ _ (g.H.Shelf.held c.args.shelf.now) (standing_of c.in_ok-asked.asked) c.plan_with.result c.in_ok-asked.ensures.gives c.plan_with.ensures.attended
