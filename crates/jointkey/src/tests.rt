@@ -15,10 +15,11 @@ ghost use Rattle.talk.specs.Shape.{create_shape};
 use super::*;
 use bivar61::{Grid, GridList};
 use chance61::Chance;
+use driver::drive;
 use field61::Fe;
 use lists::OutOfMemory;
 use std::alloc::Global;
-use talk::{Driven, Part, Setting, drive};
+use talk::{Driven, Part, Setting};
 
 // The grid of a member in a lane: 100 * me + lane + me * y + 7 * x + 3 * x * y.
 fn grid(alloc: Global, me: u32, lane: u32) -> Result<Grid, OutOfMemory>

@@ -10,10 +10,11 @@ ghost use Rattle.moveshare.specs.Minds.{mind_made_for, mind_may};
 use super::*;
 use bivar61::{Grid, GridList};
 use chance61::Chance;
+use driver::drive;
 use field61::{Fe, FeList};
 use lists::OutOfMemory;
 use std::alloc::Global;
-use talk::{Driven, Setting, drive};
+use talk::{Driven, Setting};
 
 type Mind = MoveMind<4, 4>;
 

@@ -11,46 +11,51 @@ use Rattle.talk.specs.Read.{post_ok, ring_ok}
 
 -- the posts of the seats from `seat` on, each of its shape
 abbrev pub PostsOk : Shape → ℕ → ℕ → List Post → Type 0
-PostsOk s round seat [] = Unit {0}
-PostsOk s round seat (p ∷ ps) = (post_ok s round seat p ≡ true) × PostsOk s round (seat + 1) ps
+PostsOk setting round seat [] = Unit {0}
+PostsOk setting round seat (post ∷ posts) =
+    (post_ok setting round seat post ≡ true) × PostsOk setting round (seat + 1) posts
 
 -- the ring messages to one seat from the seats from `seat` on, each of its shape
 abbrev pub RingsOk : Shape → ℕ → ℕ → ℕ → List Ring → Type 0
-RingsOk s round to seat [] = Unit {0}
-RingsOk s round to seat (r ∷ rs) = (ring_ok s round seat to r ≡ true) × RingsOk s round to (seat + 1) rs
+RingsOk setting round to seat [] = Unit {0}
+RingsOk setting round to seat (ring ∷ rings) =
+    (ring_ok setting round seat to ring ≡ true) × RingsOk setting round to (seat + 1) rings
 
 -- one message of each seat, each of its shape
-pub record Fits (s : Shape) (seat round : ℕ) (h : Heard) : Type 0 where
-  pub posts_all : length h.posts ≡ seats s
-  pub rings_all : length h.rings ≡ seats s
-  pub posts_ok : PostsOk s round 1 h.posts
-  pub rings_ok : RingsOk s round seat 1 h.rings
+pub record Fits (setting : Shape) (seat round : ℕ) (heard : Heard) : Type 0 where
+  pub posts_all : length heard.posts ≡ seats setting
+  pub rings_all : length heard.rings ≡ seats setting
+  pub posts_ok : PostsOk setting round 1 heard.posts
+  pub rings_ok : RingsOk setting round seat 1 heard.rings
 
 -- it was read for a setting and a seat for which the mind is made
 abbrev pub AsRead : (Shape → ℕ → Type 0) → ℕ → Heard → Type 0
-AsRead made_for round h = (s : Shape) × (seat : ℕ) × made_for s seat × Fits s seat round h
+AsRead made_for round heard =
+    (setting : Shape) × (seat : ℕ) × made_for setting seat × Fits setting seat round heard
 
 -- a mind is made for the same settings and seats as before
 abbrev pub StaysMade : (Shape → ℕ → Type 0) → (Shape → ℕ → Type 0) → Type 0
-StaysMade before now = (s : Shape) (seat : ℕ) → (before s seat → now s seat) × (now s seat → before s seat)
+StaysMade before now =
+    (setting : Shape) (seat : ℕ) →
+    (before setting seat → now setting seat) × (now setting seat → before setting seat)
 
 -- one ring message for each seat, and none for the own
-pub record OneEach (s : Shape) (seat : ℕ) (rings : List Ring) : Type 0 where
-  pub all : length rings ≡ seats s
+pub record OneEach (setting : Shape) (seat : ℕ) (rings : List Ring) : Type 0 where
+  pub all : length rings ≡ seats setting
   pub own : get_or rings (seat - 1) Nothing ≡ Nothing
 
 -- the word has a ring message for each seat
 abbrev pub WordFits : Shape → ℕ → Say → Type 0
-WordFits s seat (Speak p rs) = OneEach s seat rs
-WordFits s seat Pass = Unit {0}
-WordFits s seat (PassThenSpeak p rs) = OneEach s seat rs
+WordFits setting seat (Speak post rings) = OneEach setting seat rings
+WordFits setting seat Pass = Unit {0}
+WordFits setting seat (PassThenSpeak post rings) = OneEach setting seat rings
 
 -- each mind may do something in the round
 abbrev pub Hearing : {M : Type 0} → (M → ℕ → Type 0) → ℕ → List M → Type 0
 Hearing may round [] = Unit {0}
-Hearing may round (m ∷ ms) = may m round × Hearing may round ms
+Hearing may round (mind ∷ minds) = may mind round × Hearing may round minds
 
 -- the minds are made for the setting and the seats from `seat` on
 abbrev pub Seated : {M : Type 0} → (M → Shape → ℕ → Type 0) → Shape → ℕ → List M → Type 0
-Seated made s seat [] = Unit {0}
-Seated made s seat (m ∷ ms) = made m s seat × Seated made s (seat + 1) ms
+Seated made setting seat [] = Unit {0}
+Seated made setting seat (mind ∷ minds) = made mind setting seat × Seated made setting (seat + 1) minds

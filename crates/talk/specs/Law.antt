@@ -11,24 +11,33 @@ use Rattle.talk.specs.Read.{as_read, ring_as_read, posts_read, rings_read}
 use Rattle.talk.specs.Hears.{Fits}
 use Rattle.talk.specs.Sync.{has, post_in, ring_in, posts_heard, rings_heard, heard_at}
 
--- the post that is heard of the seat at place k is that of its word as read, where the mask has it
+-- the post that is heard of the seat at a place is that of its word as read, where the mask has it
 abbrev pub PostHeard : Type 0
 PostHeard =
-    (s : Shape) (round mask seat : ℕ) (ws : List Say) (k : ℕ) → k < length ws →
-    get_or (posts_heard s round mask seat ws) k Quiet ≡ cond (has mask (seat + k)) (as_read s round (seat + k) (post_in (get_or ws k Pass))) Quiet
+    (setting : Shape) (round mask seat : ℕ) (words : List Say) (place : ℕ) → place < length words →
+    get_or (posts_heard setting round mask seat words) place Quiet
+    ≡ cond (has mask (seat + place)) (as_read setting round (seat + place) (post_in (get_or words place Pass))) Quiet
 
 -- and so the ring message
 abbrev pub RingHeard : Type 0
 RingHeard =
-    (s : Shape) (round mask to seat : ℕ) (ws : List Say) (k : ℕ) → k < length ws →
-    get_or (rings_heard s round mask to seat ws) k Nothing ≡ cond (has mask (seat + k)) (ring_as_read s round (seat + k) to (ring_in to (get_or ws k Pass))) Nothing
+    (setting : Shape) (round mask to seat : ℕ) (words : List Say) (place : ℕ) → place < length words →
+    get_or (rings_heard setting round mask to seat words) place Nothing
+    ≡ cond
+    (has mask (seat + place))
+    (ring_as_read setting round (seat + place) to (ring_in to (get_or words place Pass)))
+    Nothing
 
 -- what a run lets a seat hear may be told to a mind there
 abbrev pub HeardFits : Type 0
-HeardFits = (s : Shape) (round mask to : ℕ) (ws : List Say) → length ws ≡ seats s → Fits s to round (heard_at s round mask ws to)
+HeardFits =
+    (setting : Shape) (round mask to : ℕ) (words : List Say) → length words ≡ seats setting →
+    Fits setting to round (heard_at setting round mask words to)
 
 -- one message of each seat, read one by one, may be told to a mind
 abbrev pub ReadFits : Type 0
 ReadFits =
-    (s : Shape) (seat round : ℕ) (ps : List Post) (rs : List Ring) → length ps ≡ seats s → length rs ≡ seats s →
-    Fits s seat round (record { posts = posts_read s round 1 ps; rings = rings_read s round seat 1 rs })
+    (setting : Shape) (seat round : ℕ) (posts : List Post) (rings : List Ring) →
+    length posts ≡ seats setting → length rings ≡ seats setting →
+    Fits setting seat round
+    (record { posts = posts_read setting round 1 posts; rings = rings_read setting round seat 1 rings })

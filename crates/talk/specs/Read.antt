@@ -10,70 +10,81 @@ use Rattle.talk.specs.declared.messages.Ring.{Ring}
 use Rattle.talk.specs.declared.messages.Ring.TheVariants.{Nothing, Dealt, Cross}
 use Rattle.talk.specs.Shape.{Shape, instances, within, deals, receives}
 
--- the first item of a list, where there is one, comes after x
+-- the first item of a list, where there is one, comes after the item
 abbrev pub comes_first : {A : Type 0} → (A → A → Bool) → A → List A → Bool
-comes_first before x [] = true
-comes_first before x (y ∷ ys) = before x y
+comes_first before item [] = true
+comes_first before item (first ∷ rest) = before item first
 
 -- each item comes before the next one
 abbrev pub ascends : {A : Type 0} → (A → A → Bool) → List A → Bool
 ascends before [] = true
-ascends before (x ∷ xs) = comes_first before x xs && ascends before xs
+ascends before (first ∷ rest) = comes_first before first rest && ascends before rest
 
--- the pair (a, b) comes before the pair (c, d)
+-- a pair of numbers comes before the next pair: by the first number, then by the second
 abbrev pub comes_before : ℕ → ℕ → ℕ → ℕ → Bool
-comes_before a b c d = ltb a c || (eqb a c && ltb b d)
+comes_before first second next_first next_second =
+    ltb first next_first || (eqb first next_first && ltb second next_second)
 
 -- complaints go by instance, then by the receiver complained of
 abbrev pub complaint_before : Complaint → Complaint → Bool
-complaint_before c d = comes_before c.instance c.against d.instance d.against
+complaint_before complaint next = comes_before complaint.instance complaint.against next.instance next.against
 
 abbrev pub complaint_in : Shape → Complaint → Bool
-complaint_in s c = ltb c.instance (instances s) && within 1 c.against s.receivers
+complaint_in setting complaint =
+    ltb complaint.instance (instances setting) && within 1 complaint.against setting.receivers
 
 abbrev pub complaints_ok : Shape → List Complaint → Bool
-complaints_ok s cs = ascends complaint_before cs && list_all (complaint_in s) cs
+complaints_ok setting complaints = ascends complaint_before complaints && list_all (complaint_in setting) complaints
 
 -- reveals go by lane, then by receiver
 abbrev pub reveal_before : Reveal → Reveal → Bool
-reveal_before r q = comes_before r.lane r.receiver q.lane q.receiver
+reveal_before reveal next = comes_before reveal.lane reveal.receiver next.lane next.receiver
 
 abbrev pub reveal_in : Shape → Reveal → Bool
-reveal_in s r =
-    ltb r.lane 5
-    && (within 1 r.receiver s.receivers && (eqb (length r.row) (s.degree + 1) && eqb (length r.column) (s.degree + 1)))
+reveal_in setting reveal =
+    ltb reveal.lane 5
+    && (within 1 reveal.receiver setting.receivers
+    && (eqb (length reveal.row) (setting.degree + 1) && eqb (length reveal.column) (setting.degree + 1)))
 
 abbrev pub reveals_ok : Shape → List Reveal → Bool
-reveals_ok s rs = ascends reveal_before rs && list_all (reveal_in s) rs
+reveals_ok setting reveals = ascends reveal_before reveals && list_all (reveal_in setting) reveals
 
 -- the post of the seat has its shape in the round
 abbrev pub post_ok : Shape → ℕ → ℕ → Post → Bool
-post_ok s round seat Quiet = true
-post_ok s round seat (Complaints cs) = eqb round 3 && (receives s seat && complaints_ok s cs)
-post_ok s round seat (Reveals rs) = eqb round 4 && (deals s seat && reveals_ok s rs)
-post_ok s round seat (Votes vs) = eqb round 5 && (receives s seat && eqb (length vs) (instances s))
-post_ok s round seat (Syndromes xs) = eqb round 6 && (receives s seat && eqb (length xs) (5 * s.checks))
+post_ok setting round seat Quiet = true
+post_ok setting round seat (Complaints list) = eqb round 3 && (receives setting seat && complaints_ok setting list)
+post_ok setting round seat (Reveals list) = eqb round 4 && (deals setting seat && reveals_ok setting list)
+post_ok setting round seat (Votes list) =
+    eqb round 5 && (receives setting seat && eqb (length list) (instances setting))
+post_ok setting round seat (Syndromes list) =
+    eqb round 6 && (receives setting seat && eqb (length list) (5 * setting.checks))
 
 -- the ring message from the one seat to the other has its shape in the round
 abbrev pub ring_ok : Shape → ℕ → ℕ → ℕ → Ring → Bool
-ring_ok s round sender to Nothing = true
-ring_ok s round sender to (Dealt xs) =
-    eqb round 1 && (deals s sender && (receives s to && (not (eqb sender to) && eqb (length xs) (10 * (s.degree + 1)))))
-ring_ok s round sender to (Cross xs) =
-    eqb round 2 && (receives s sender && (receives s to && (not (eqb sender to) && eqb (length xs) (2 * instances s))))
+ring_ok setting round sender to Nothing = true
+ring_ok setting round sender to (Dealt list) =
+    eqb round 1
+    && (deals setting sender
+    && (receives setting to && (not (eqb sender to) && eqb (length list) (10 * (setting.degree + 1)))))
+ring_ok setting round sender to (Cross list) =
+    eqb round 2
+    && (receives setting sender
+    && (receives setting to && (not (eqb sender to) && eqb (length list) (2 * instances setting))))
 
 -- a message of another shape is read as nothing said
 abbrev pub as_read : Shape → ℕ → ℕ → Post → Post
-as_read s round seat p = cond (post_ok s round seat p) p Quiet
+as_read setting round seat post = cond (post_ok setting round seat post) post Quiet
 
 abbrev pub ring_as_read : Shape → ℕ → ℕ → ℕ → Ring → Ring
-ring_as_read s round sender to r = cond (ring_ok s round sender to r) r Nothing
+ring_as_read setting round sender to ring = cond (ring_ok setting round sender to ring) ring Nothing
 
 -- messages read one by one, from the seats from `seat` on
 abbrev pub posts_read : Shape → ℕ → ℕ → List Post → List Post
-posts_read s round seat [] = []
-posts_read s round seat (p ∷ ps) = as_read s round seat p ∷ posts_read s round (seat + 1) ps
+posts_read setting round seat [] = []
+posts_read setting round seat (post ∷ posts) =
+    as_read setting round seat post ∷ posts_read setting round (seat + 1) posts
 
 abbrev pub rings_read : Shape → ℕ → ℕ → ℕ → List Ring → List Ring
-rings_read s round to seat [] = []
-rings_read s round to seat (r ∷ rs) = ring_as_read s round seat to r ∷ rings_read s round to (seat + 1) rs
+rings_read setting round to seat [] = []
+rings_read setting round to seat (ring ∷ rings) =
+    ring_as_read setting round seat to ring ∷ rings_read setting round to (seat + 1) rings

@@ -1,7 +1,7 @@
-//! What seats say to one another: messages, settings of a phase, minds, and the synchronous run.
+//! What seats say to one another: messages, settings of a phase, minds, and what a run of them is.
 #![tactic(auto)]
 
-mod driver;
+mod driven;
 pub mod laws;
 mod masks;
 mod messages;
@@ -13,7 +13,7 @@ mod shapes;
 #[cfg(test)]
 mod tests;
 
-pub use driver::{Driven, drive};
+pub use driven::Driven;
 pub use masks::{all_in, in_mask, mask_with};
 pub use messages::{Complaint, Heard, Post, Reveal, Ring, Say};
 pub use mind::Mind;

@@ -13,7 +13,7 @@ use std::alloc::Global;
 /// column don't cross complains of itself.
 #[derive(Clone, Copy, Debug, Drop)]
 pub struct Complaint {
-    /// The instance, from 0: `(dealer - 1) * 5 + lane`.
+    /// The number of the instance, from 0, as `sizes::Instance` counts them.
     pub instance: u32,
     /// The index of the receiver complained of, from 1.
     pub against: u32,
@@ -139,7 +139,7 @@ impl TryCopy for Ring {
 // A copy of the ring message for a seat, counted from 1: Nothing past the end of the list.
 fn ring_to(alloc: Global, rings: &RingList, to: u32) -> Result<Ring, OutOfMemory>
     requires { 1 ≤ to }
-    ensures { IfOk result (λ r. r ≡ slice_index_or rings.now (to - 1) Ring.Nothing) }
+    ensures { IfOk result (λ ring. ring ≡ slice_index_or rings.now (to - 1) Ring.Nothing) }
 {
     let place = to as usize - 1;
     if place < rings.len() {
@@ -162,7 +162,7 @@ impl Say {
 
     /// A copy of what it posts: Quiet where it passes.
     pub fn posted(&self, alloc: Global) -> Result<Post, OutOfMemory>
-        ensures { IfOk result (λ p. p ≡ post_in self.now) }
+        ensures { IfOk result (λ post. post ≡ post_in self.now) }
     {
         match self {
             Say::Speak { post, .. } => post.copy(alloc),
@@ -174,7 +174,7 @@ impl Say {
     /// A copy of what it sends to a seat: Nothing where it passes, and for a seat that it has no message for.
     pub fn sent(&self, alloc: Global, to: u32) -> Result<Ring, OutOfMemory>
         requires { 1 ≤ to }
-        ensures { IfOk result (λ r. r ≡ ring_in to self.now) }
+        ensures { IfOk result (λ ring. ring ≡ ring_in to self.now) }
     {
         match self {
             Say::Speak { rings, .. } => ring_to(alloc, rings, to),

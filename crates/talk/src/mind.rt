@@ -37,8 +37,9 @@ pub trait Mind: Drop {
     /// which settings and seats it is made.
     fn say(&mut self, alloc: Global, round: u32) -> Result<Say, OutOfMemory>
         requires { may_say self.old round }
-        ensures word { IfOk result (λ w. w ≡ word self.old round) }
-        ensures rings { IfOk result (λ w. (s : Shape) (seat : ℕ) → made_for self.old s seat → WordFits s seat w) }
+        ensures word { IfOk result (λ said. said ≡ word self.old round) }
+        ensures rings { IfOk result (λ said.
+            (setting : Shape) (seat : ℕ) → made_for self.old setting seat → WordFits setting seat said) }
         ensures after { OnOk result (self.new ≡ after_say self.old round) }
         ensures kept { OnErr result (StaysMade (made_for self.old) (made_for self.new)) };
 
@@ -51,14 +52,18 @@ pub trait Mind: Drop {
         ensures kept { OnErr result (self.new ≡ self.old) };
 
     /// Saying changes nothing of the settings and seats.
-    ghost say_keeps: { (m : Self) (round : ℕ) → may_say m round → StaysMade (made_for m) (made_for (after_say m round)) };
+    ghost say_keeps: { (mind : Self) (round : ℕ) → may_say mind round →
+        StaysMade (made_for mind) (made_for (after_say mind round)) };
 
     /// Nor does hearing.
-    ghost hear_keeps: { (m : Self) (round : ℕ) (heard : Heard) → may_hear m round → StaysMade (made_for m) (made_for (after_hear m round heard)) };
+    ghost hear_keeps: { (mind : Self) (round : ℕ) (heard : Heard) → may_hear mind round →
+        StaysMade (made_for mind) (made_for (after_hear mind round heard)) };
 
     /// After its word, the round may be heard.
-    ghost hears_next: { (m : Self) (round : ℕ) → may_say m round → may_hear (after_say m round) round };
+    ghost hears_next: { (mind : Self) (round : ℕ) → may_say mind round → may_hear (after_say mind round) round };
 
     /// After hearing, the next round of the setting may be said, where there is one.
-    ghost says_next: { (m : Self) (round : ℕ) (heard : Heard) (s : Shape) (seat : ℕ) → may_hear m round → made_for m s seat → round < rounds s → may_say (after_hear m round heard) (round + 1) };
+    ghost says_next: { (mind : Self) (round : ℕ) (heard : Heard) (setting : Shape) (seat : ℕ) →
+        may_hear mind round → made_for mind setting seat → round < rounds setting →
+        may_say (after_hear mind round heard) (round + 1) };
 }

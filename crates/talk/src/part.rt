@@ -45,13 +45,24 @@ impl<M: Mind> Mind for Part<M> {
 
     ghost after_hear = { part_after_hear M.after_hear };
 
-    ghost say_keeps = { λ p round. elim p as (λ k. Self.may_say k round → StaysMade (Self.made_for k) (Self.made_for (Self.after_say k round))) [ Away ↦ λ may s seat. (λ made. made, λ made. made) | In m ↦ M.say_keeps m round ] };
+    ghost say_keeps = { λ part round. elim part as
+        (λ kind. Self.may_say kind round →
+        StaysMade (Self.made_for kind) (Self.made_for (Self.after_say kind round)))
+        [ Away ↦ λ may setting seat. (λ made. made, λ made. made) | In mind ↦ M.say_keeps mind round ] };
 
-    ghost hear_keeps = { λ p round h. elim p as (λ k. Self.may_hear k round → StaysMade (Self.made_for k) (Self.made_for (Self.after_hear k round h))) [ Away ↦ λ may s seat. (λ made. made, λ made. made) | In m ↦ M.hear_keeps m round h ] };
+    ghost hear_keeps = { λ part round heard. elim part as
+        (λ kind. Self.may_hear kind round →
+        StaysMade (Self.made_for kind) (Self.made_for (Self.after_hear kind round heard)))
+        [ Away ↦ λ may setting seat. (λ made. made, λ made. made) | In mind ↦ M.hear_keeps mind round heard ] };
 
-    ghost hears_next = { λ p round. elim p as (λ k. Self.may_say k round → Self.may_hear (Self.after_say k round) round) [ Away ↦ λ may. tt | In m ↦ M.hears_next m round ] };
+    ghost hears_next = { λ part round. elim part as
+        (λ kind. Self.may_say kind round → Self.may_hear (Self.after_say kind round) round)
+        [ Away ↦ λ may. tt | In mind ↦ M.hears_next mind round ] };
 
-    ghost says_next = { λ p round h s seat. elim p as (λ k. Self.may_hear k round → Self.made_for k s seat → round < rounds s → Self.may_say (Self.after_hear k round h) (round + 1)) [ Away ↦ λ may made less. tt | In m ↦ M.says_next m round h s seat ] };
+    ghost says_next = { λ part round heard setting seat. elim part as
+        (λ kind. Self.may_hear kind round → Self.made_for kind setting seat → round < rounds setting →
+        Self.may_say (Self.after_hear kind round heard) (round + 1))
+        [ Away ↦ λ may made less. tt | In mind ↦ M.says_next mind round heard setting seat ] };
 
     fn say(&mut self, alloc: Global, round: u32) -> Result<Say, OutOfMemory> {
         match self {

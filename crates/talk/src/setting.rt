@@ -31,11 +31,32 @@ impl Model for Setting {
 
     ghost coded = { shape_code };
 
-    ghost view = { λ s. record { receivers = s.receivers; bound = s.bound; degree = s.degree; dealers = s.dealers; shift = s.shift; checks = s.checks } };
+    ghost view = { λ setting. record {
+      receivers = setting.receivers;
+      bound = setting.bound;
+      degree = setting.degree;
+      dealers = setting.dealers;
+      shift = setting.shift;
+      checks = setting.checks;
+    } };
 
-    ghost invariant = { λ s. Lawful (record { receivers = s.receivers; bound = s.bound; degree = s.degree; dealers = s.dealers; shift = s.shift; checks = s.checks }) };
+    ghost invariant = { λ setting. Lawful (record {
+      receivers = setting.receivers;
+      bound = setting.bound;
+      degree = setting.degree;
+      dealers = setting.dealers;
+      shift = setting.shift;
+      checks = setting.checks;
+    }) };
 
-    ghost inverse = { λ v. record { receivers = v.receivers; bound = v.bound; degree = v.degree; dealers = v.dealers; shift = v.shift; checks = v.checks } };
+    ghost inverse = { λ shape. record {
+      receivers = shape.receivers;
+      bound = shape.bound;
+      degree = shape.degree;
+      dealers = shape.dealers;
+      shift = shape.shift;
+      checks = shape.checks;
+    } };
 }
 
 // The setting in which one committee deals and receives on the same seats.
@@ -43,7 +64,14 @@ fn among(members: u32, bound: u32, degree: u32, checks: u32) -> Setting
     requires committee { IsCommittee members bound }
     requires degree { degree ≤ bound }
     requires checks { checks ≤ 1 }
-    ensures { result ≡ record { receivers = members; bound = bound; degree = degree; dealers = members; shift = 0; checks = checks } }
+    ensures { result ≡ record {
+      receivers = members;
+      bound = bound;
+      degree = degree;
+      dealers = members;
+      shift = 0;
+      checks = checks;
+    } }
 {
     Setting {
         receivers: members,

@@ -46,7 +46,7 @@ pub fn ring_ok(item: &Ring, round: u32, sender: u32, to: u32, setting: &Setting)
                 && setting.deals(sender)
                 && setting.receives(to)
                 && sender != to
-                && list.len() == 10 * (setting.degree() as usize + 1)
+                && list.len() == (2 * LANES * (setting.degree() + 1)) as usize
         }
         Ring::Cross { list } => {
             round == 2
@@ -99,7 +99,9 @@ fn complaints_fit(list: &[Complaint], setting: &Setting) -> bool
 
 // Whether a complaint is in its range and comes after an instance and a receiver.
 fn complaint_next(complaint: &Complaint, instance: u32, against: u32, setting: &Setting) -> bool
-    ensures { result ≡ (comes_before instance against complaint.now.instance complaint.now.against && complaint_in setting.now complaint.now) }
+    ensures { result
+        ≡ (comes_before instance against complaint.now.instance complaint.now.against
+        && complaint_in setting.now complaint.now) }
 {
     comes_before(instance, against, complaint.instance, complaint.against)
         && complaint.instance < setting.instances()
@@ -126,7 +128,8 @@ fn reveals_fit(list: &[Reveal], setting: &Setting) -> bool
 
 // Whether a reveal has its shape and comes after a lane and a receiver.
 fn reveal_next(reveal: &Reveal, lane: u32, receiver: u32, setting: &Setting) -> bool
-    ensures { result ≡ (comes_before lane receiver reveal.now.lane reveal.now.receiver && reveal_in setting.now reveal.now) }
+    ensures { result
+        ≡ (comes_before lane receiver reveal.now.lane reveal.now.receiver && reveal_in setting.now reveal.now) }
 {
     comes_before(lane, receiver, reveal.lane, reveal.receiver)
         && reveal.lane < LANES

@@ -11,10 +11,11 @@ ghost use Rattle.zeroshare.specs.Refresh.{keeper_made_for, keeper_may};
 use super::*;
 use bivar61::{Grid, GridList};
 use chance61::Chance;
+use driver::drive;
 use field61::Fe;
 use lists::OutOfMemory;
 use std::alloc::Global;
-use talk::{Driven, Setting, drive};
+use talk::{Driven, Setting};
 
 // The five grids of a member, of degree 0: in each lane the number 4 * me + lane - 9.
 fn grids(alloc: Global, me: u32) -> Result<GridList, OutOfMemory>

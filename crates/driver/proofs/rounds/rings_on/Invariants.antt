@@ -1,6 +1,6 @@
 use Rattle.std.proofs.Common.{◌≡◌, ◌+◌, ◌++◌, drop}
 use Rattle.talk.specs.Sync.{rings_heard}
-use Rattle.talk.proofs.driver.rings_on.Given as goal
+use Rattle.driver.proofs.rounds.rings_on.Given as goal
 
 abbrev pub invariant-loop-word : goal.invariant-loop-word
 invariant-loop-word l = record {

@@ -1,7 +1,7 @@
 use Rattle.std.proofs.Common.{◌≡◌, ◌++◌, take, drop}
 use Rattle.talk.specs.Hears.{Hearing}
 use Rattle.talk.specs.Sync.{ways, words_of, after_words}
-use Rattle.talk.proofs.driver.say_all.Given as goal
+use Rattle.driver.proofs.rounds.say_all.Given as goal
 
 abbrev pub invariant-loop-mind : goal.invariant-loop-mind
 invariant-loop-mind g l =

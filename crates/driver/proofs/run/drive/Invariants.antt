@@ -1,8 +1,9 @@
 use Rattle.std.proofs.Common.{◌≡◌, ◌+◌, ◌≤◌, length}
 use Rattle.talk.specs.Shape.{seats, rounds}
 use Rattle.talk.specs.Hears.{Hearing, Seated}
-use Rattle.talk.specs.Sync.{ways, sync, AllSpoken, all_seats, last_mask}
-use Rattle.talk.proofs.driver.drive.Given as goal
+use Rattle.talk.specs.Sync.{ways, sync, all_seats, last_mask}
+use Rattle.driver.specs.Spoken.{AllSpoken}
+use Rattle.driver.proofs.run.drive.Given as goal
 
 abbrev pub invariant-loop-round : goal.invariant-loop-round
 invariant-loop-round g l =

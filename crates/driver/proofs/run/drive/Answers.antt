@@ -2,8 +2,10 @@ use Rattle.std.proofs.Common.{ℕ, ◌^◌, ◌<◌, [], ◌∷◌, length, sym,
 use Rattle.std.proofs.lemmas.List.{length-append}
 use Rattle.talk.specs.Shape.{seats}
 use Rattle.talk.specs.Sync.{ways, nobody, all_seats, last_mask}
-use Rattle.talk.proofs.Sync.{last-append, length-after_hears, length-after_words, may_heard, made_heard, round_is, now_is, spoken_is, may_next, made_next, words_count, all_allowed}
-use Rattle.talk.proofs.driver.drive.Goals as goal
+use Rattle.talk.proofs.Sync.{length-after_hears, length-after_words}
+use Rattle.driver.proofs.NextRound.{may_heard, made_heard, round_is, now_is, may_next, made_next, words_count}
+use Rattle.driver.proofs.Spoken.{last-append, spoken_is, all_allowed}
+use Rattle.driver.proofs.run.drive.Goals as goal
 
 pub hear_all-requires-clause-few : goal.hear_all-requires-clause-few
 hear_all-requires-clause-few g c =

@@ -1,6 +1,6 @@
 use Rattle.std.proofs.Common.{arith}
-use Rattle.talk.proofs.Sync.{spoken_from}
-use Rattle.talk.proofs.masks.spoken_mask.Goals as goal
+use Rattle.driver.proofs.Spoken.{spoken_from}
+use Rattle.driver.proofs.masks.spoken_mask.Goals as goal
 
 pub returns-clause-spoken : goal.returns-clause-spoken
 returns-clause-spoken c =

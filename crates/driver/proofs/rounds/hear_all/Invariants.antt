@@ -1,7 +1,7 @@
 use Rattle.std.proofs.Common.{◌≡◌, ◌++◌, ◌+◌, take, drop, length}
 use Rattle.talk.specs.Hears.{Hearing, Seated}
 use Rattle.talk.specs.Sync.{ways, after_hears}
-use Rattle.talk.proofs.driver.hear_all.Given as goal
+use Rattle.driver.proofs.rounds.hear_all.Given as goal
 
 abbrev pub invariant-loop-mind : goal.invariant-loop-mind
 invariant-loop-mind g l =

@@ -1,7 +1,7 @@
 use Rattle.std.proofs.Common.{◌≡◌, ℕ, ◌+◌, ◌^◌, ◌<◌, ◌&&◌, get_or}
 use Rattle.talk.specs.declared.messages.Say.TheVariants.{Pass}
 use Rattle.talk.specs.Sync.{has, speaks}
-use Rattle.talk.proofs.masks.spoken_mask.Given as goal
+use Rattle.driver.proofs.masks.spoken_mask.Given as goal
 
 abbrev pub invariant-loop-word : goal.invariant-loop-word
 invariant-loop-word l = record {

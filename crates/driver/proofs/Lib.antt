@@ -1,0 +1,2 @@
+pub mod NextRound
+pub mod Spoken
