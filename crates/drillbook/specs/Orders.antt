@@ -9,72 +9,76 @@ use Rattle.drillbook.specs.declared.order.Order.{Order}
 
 -- the receivers are new members, who sit behind the dealers
 abbrev pub moves : Shape → Bool
-moves s = not (eqb s.shift 0)
+moves shape = not (eqb shape.shift 0)
 
--- skew stands in the first and fourth rounds of a dealer, the second of a receiver, and the sixth of a receiver of a move
+-- skew stands in the first and fourth rounds of a dealer, the second of a receiver, and the sixth of a receiver of
+-- a move
 abbrev pub may_skew : Shape → ℕ → ℕ → Bool
-may_skew s seat round =
-    (eqb round 1 && deals s seat)
-    || ((eqb round 2 && receives s seat)
-    || ((eqb round 4 && deals s seat)
-    || (eqb round 6 && (moves s && receives s seat))))
+may_skew shape seat round =
+    (eqb round 1 && deals shape seat)
+    || ((eqb round 2 && receives shape seat)
+    || ((eqb round 4 && deals shape seat)
+    || (eqb round 6 && (moves shape && receives shape seat))))
 
--- the receiver j sits on another seat
+-- the receiver sits on another seat
 abbrev pub other_receiver : Shape → ℕ → ℕ → Bool
-other_receiver s seat j = within 1 j s.receivers && not (eqb (s.shift + j) seat)
+other_receiver shape seat receiver = within 1 receiver shape.receivers && not (eqb (shape.shift + receiver) seat)
 
 -- the seat may be told this verb in this round, with its argument in range
 abbrev pub allows : Shape → ℕ → ℕ → Verb → Bool
-allows s seat round Silent = true
-allows s seat round Late = true
-allows s seat round Garble = true
-allows s seat round (Skew k) = may_skew s seat round
-allows s seat round (Wrong k) = eqb round 1 && (moves s && deals s seat)
-allows s seat round (Accuse j) = eqb round 3 && (receives s seat && other_receiver s seat j)
-allows s seat round Veto = eqb round 5 && receives s seat
+allows shape seat round Silent = true
+allows shape seat round Late = true
+allows shape seat round Garble = true
+allows shape seat round (Skew by) = may_skew shape seat round
+allows shape seat round (Wrong by) = eqb round 1 && (moves shape && deals shape seat)
+allows shape seat round (Accuse receiver) = eqb round 3 && (receives shape seat && other_receiver shape seat receiver)
+allows shape seat round Veto = eqb round 5 && receives shape seat
 
 -- a receiver that the verb names is one of the setting
 abbrev pub NamesReceiver : Shape → Verb → Type 0
-NamesReceiver s (Accuse j) = (1 ≤ j) × (j ≤ s.receivers)
-NamesReceiver s Silent = Unit {0}
-NamesReceiver s Late = Unit {0}
-NamesReceiver s Garble = Unit {0}
-NamesReceiver s (Skew k) = Unit {0}
-NamesReceiver s (Wrong k) = Unit {0}
-NamesReceiver s Veto = Unit {0}
+NamesReceiver shape (Accuse receiver) = (1 ≤ receiver) × (receiver ≤ shape.receivers)
+NamesReceiver shape Silent = Unit {0}
+NamesReceiver shape Late = Unit {0}
+NamesReceiver shape Garble = Unit {0}
+NamesReceiver shape (Skew by) = Unit {0}
+NamesReceiver shape (Wrong by) = Unit {0}
+NamesReceiver shape Veto = Unit {0}
 
 -- the party is a seat, the round one of the phase, and the verb may stand there
 abbrev pub is_lawful : Shape → Order → Bool
-is_lawful s o = within 1 o.party (seats s) && (within 1 o.round (rounds s) && allows s o.party o.round o.verb)
+is_lawful shape order =
+    within 1 order.party
+    (seats shape) && (within 1 order.round (rounds shape) && allows shape order.party order.round order.verb)
 
 abbrev pub IsLawful : Shape → Order → Type 0
-IsLawful s o = is_lawful s o ≡ true
+IsLawful shape order = is_lawful shape order ≡ true
 
 abbrev pub AllLawful : Shape → List Order → Type 0
-AllLawful s [] = Unit {0}
-AllLawful s (o ∷ os) = IsLawful s o × AllLawful s os
+AllLawful shape [] = Unit {0}
+AllLawful shape (order ∷ orders) = IsLawful shape order × AllLawful shape orders
 
 -- some order's party is this seat
 abbrev pub names : List Order → ℕ → Bool
 names [] seat = false
-names (o ∷ os) seat = eqb o.party seat || names os seat
+names (order ∷ orders) seat = eqb order.party seat || names orders seat
 
 -- what the seat is told to do in a round
 abbrev pub order_at : List Order → ℕ → ℕ → Option Verb
 order_at [] seat round = None
-order_at (o ∷ os) seat round = first_of (eqb o.party seat && eqb o.round round) o.verb (order_at os seat round)
+order_at (order ∷ orders) seat round =
+    first_of (eqb order.party seat && eqb order.round round) order.verb (order_at orders seat round)
 
 -- what a verb adds to the shares of which a dealer of a move makes its grids
 abbrev pub added_by : Option Verb → Fp
-added_by (Some (Wrong k)) = k
+added_by (Some (Wrong by)) = by
 added_by (Some Silent) = zeroₚ
 added_by (Some Late) = zeroₚ
 added_by (Some Garble) = zeroₚ
-added_by (Some (Skew k)) = zeroₚ
-added_by (Some (Accuse j)) = zeroₚ
+added_by (Some (Skew by)) = zeroₚ
+added_by (Some (Accuse receiver)) = zeroₚ
 added_by (Some Veto) = zeroₚ
 added_by None = zeroₚ
 
--- K of the seat's line with wrong, 0 where it has none
+-- what the seat's line with wrong adds, 0 where it has none
 abbrev pub wrong_of : List Order → ℕ → Fp
 wrong_of orders seat = added_by (order_at orders seat 1)

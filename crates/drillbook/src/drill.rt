@@ -103,7 +103,7 @@ impl Drill {
         false
     }
 
-    /// The mask of the named seats from 1 to 30: seat `s` has bit `s - 1`.
+    /// The mask of the named seats from 1 to 30: `seat` has bit `seat - 1`.
     pub fn named(&self) -> u32
         ensures mask { result < 2 ^ 30 }
         ensures named { (seat : ℕ) → 1 ≤ seat → seat ≤ 30 → has result seat ≡ names self.now seat }
@@ -160,13 +160,13 @@ fn added(verb: Verb) -> Fe
     }
 }
 
-// How many of the `n` members on the seats after `shift` are named.
-pub(crate) fn named_among(drill: &Drill, shift: u32, n: u32) -> u32
-    requires { (shift ≤ 30) × (n ≤ 30) }
-    ensures { result ≡ named_among drill.now shift n }
+// How many of the first `members` seats after `shift` are named.
+pub(crate) fn named_among(drill: &Drill, shift: u32, members: u32) -> u32
+    requires { (shift ≤ 30) × (members ≤ 30) }
+    ensures { result ≡ named_among drill.now shift members }
 {
     let mut count = 0;
-    for j in 1..n + 1 {
+    for j in 1..members + 1 {
         if drill.names(shift + j) {
             count += 1;
         }
@@ -175,11 +175,11 @@ pub(crate) fn named_among(drill: &Drill, shift: u32, n: u32) -> u32
 }
 
 // Whether each of some orders may stand in a drill for a setting.
-fn each_is_lawful(orders: &[Order], s: &Setting) -> bool
-    ensures { result ≡ list_all (is_lawful s.now) orders.now }
+fn each_is_lawful(orders: &[Order], setting: &Setting) -> bool
+    ensures { result ≡ list_all (is_lawful setting.now) orders.now }
 {
     for order in orders {
-        if !is_lawful(order, s) {
+        if !is_lawful(order, setting) {
             return false;
         }
     }
@@ -187,49 +187,49 @@ fn each_is_lawful(orders: &[Order], s: &Setting) -> bool
 }
 
 // Whether an order may stand in a drill for a setting.
-pub(crate) fn is_lawful(order: &Order, s: &Setting) -> bool
-    ensures { result ≡ is_lawful s.now order.now }
+pub(crate) fn is_lawful(order: &Order, setting: &Setting) -> bool
+    ensures { result ≡ is_lawful setting.now order.now }
 {
     1 <= order.party
-        && order.party <= s.seats()
+        && order.party <= setting.seats()
         && 1 <= order.round
-        && order.round <= s.rounds()
-        && allows(s, order.party, order.round, order.verb)
+        && order.round <= setting.rounds()
+        && allows(setting, order.party, order.round, order.verb)
 }
 
 // Whether a seat may be told a verb in a round.
-fn allows(s: &Setting, seat: u32, round: u32, verb: Verb) -> bool
-    ensures { result ≡ allows s.now seat round verb }
+fn allows(setting: &Setting, seat: u32, round: u32, verb: Verb) -> bool
+    ensures { result ≡ allows setting.now seat round verb }
 {
     match verb {
         Verb::Silent => true,
         Verb::Late => true,
         Verb::Garble => true,
-        Verb::Skew { .. } => may_skew(s, seat, round),
-        Verb::Wrong { .. } => round == 1 && s.shift() != 0 && s.deals(seat),
+        Verb::Skew { .. } => may_skew(setting, seat, round),
+        Verb::Wrong { .. } => round == 1 && setting.shift() != 0 && setting.deals(seat),
         Verb::Accuse { receiver } => {
-            round == 3 && s.receives(seat) && is_other_receiver(s, seat, receiver)
+            round == 3 && setting.receives(seat) && is_other_receiver(setting, seat, receiver)
         }
-        Verb::Veto => round == 5 && s.receives(seat),
+        Verb::Veto => round == 5 && setting.receives(seat),
     }
 }
 
 // Whether a seat may be told to skew in a round.
-fn may_skew(s: &Setting, seat: u32, round: u32) -> bool
-    ensures { result ≡ may_skew s.now seat round }
+fn may_skew(setting: &Setting, seat: u32, round: u32) -> bool
+    ensures { result ≡ may_skew setting.now seat round }
 {
     match round {
-        1 => s.deals(seat),
-        2 => s.receives(seat),
-        4 => s.deals(seat),
-        6 => s.shift() != 0 && s.receives(seat),
+        1 => setting.deals(seat),
+        2 => setting.receives(seat),
+        4 => setting.deals(seat),
+        6 => setting.shift() != 0 && setting.receives(seat),
         _ => false,
     }
 }
 
 // Whether a receiver sits on another seat.
-fn is_other_receiver(s: &Setting, seat: u32, receiver: u32) -> bool
-    ensures { result ≡ other_receiver s.now seat receiver }
+fn is_other_receiver(setting: &Setting, seat: u32, receiver: u32) -> bool
+    ensures { result ≡ other_receiver setting.now seat receiver }
 {
-    1 <= receiver && receiver <= s.receivers() && s.shift() + receiver != seat
+    1 <= receiver && receiver <= setting.receivers() && setting.shift() + receiver != seat
 }

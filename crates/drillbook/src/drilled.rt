@@ -32,7 +32,13 @@ impl<M: Mind> Model for Drilled<M> {
 
     ghost use Rattle.drillbook.specs.Orders.{AllLawful};
 
-    ghost view = { λ d. record { shape = d.setting; seat = d.seat; orders = d.drill; second = d.second; inner = d.inner } };
+    ghost view = { λ d. record {
+      shape = d.setting;
+      seat = d.seat;
+      orders = d.drill;
+      second = d.second;
+      inner = d.inner;
+    } };
 
     ghost invariant = { λ d. AllLawful d.setting d.drill };
 }
@@ -51,7 +57,8 @@ impl<M: Mind> Drilled<M> {
         requires fresh { M.may_say mind 1 }
         requires made { M.made_for mind setting seat }
         requires lawful { AllLawful setting drill.now }
-        ensures { IfOk result (λ d. d ≡ record { shape = setting; seat = seat; orders = drill.now; second = Pass; inner = mind }) }
+        ensures { IfOk result
+            (λ d. d ≡ record { shape = setting; seat = seat; orders = drill.now; second = Pass; inner = mind }) }
     {
         Ok(Drilled {
             setting,
@@ -85,25 +92,34 @@ impl<M: Mind> Drilled<M> {
 }
 
 impl<M: Mind> Mind for Drilled<M> {
-    ghost made_for = { λ d s seat. (d.shape ≡ s) × (d.seat ≡ seat) × M.made_for d.inner s seat };
+    ghost made_for = { λ mind shape seat.
+        (mind.shape ≡ shape) × (mind.seat ≡ seat) × M.made_for mind.inner shape seat };
 
-    ghost may_say = { λ d round. M.may_say d.inner round };
+    ghost may_say = { λ mind round. M.may_say mind.inner round };
 
-    ghost may_hear = { λ d round. M.may_hear d.inner round };
+    ghost may_hear = { λ mind round. M.may_hear mind.inner round };
 
-    ghost word = { λ d round. (drilled_ways (ways M.word M.after_say M.after_hear)).word d round };
+    ghost word = { λ mind round. (drilled_ways (ways M.word M.after_say M.after_hear)).word mind round };
 
-    ghost after_say = { λ d round. (drilled_ways (ways M.word M.after_say M.after_hear)).after_say d round };
+    ghost after_say = { λ mind round. (drilled_ways (ways M.word M.after_say M.after_hear)).after_say mind round };
 
-    ghost after_hear = { λ d round h. (drilled_ways (ways M.word M.after_say M.after_hear)).after_hear d round h };
+    ghost after_hear = { λ mind round heard.
+        (drilled_ways (ways M.word M.after_say M.after_hear)).after_hear mind round heard };
 
-    ghost say_keeps = { λ d round may s seat. (λ m. (m.0, m.1, (M.say_keeps d.inner round may s seat).0 m.2), λ m. (m.0, m.1, (M.say_keeps d.inner round may s seat).1 m.2)) };
+    ghost say_keeps = { λ mind round may shape seat. (
+      λ was. (was.0, was.1, (M.say_keeps mind.inner round may shape seat).0 was.2),
+      λ was. (was.0, was.1, (M.say_keeps mind.inner round may shape seat).1 was.2),
+    ) };
 
-    ghost hear_keeps = { λ d round h may s seat. (λ m. (m.0, m.1, (M.hear_keeps d.inner round h may s seat).0 m.2), λ m. (m.0, m.1, (M.hear_keeps d.inner round h may s seat).1 m.2)) };
+    ghost hear_keeps = { λ mind round heard may shape seat. (
+      λ was. (was.0, was.1, (M.hear_keeps mind.inner round heard may shape seat).0 was.2),
+      λ was. (was.0, was.1, (M.hear_keeps mind.inner round heard may shape seat).1 was.2),
+    ) };
 
-    ghost hears_next = { λ d round may. M.hears_next d.inner round may };
+    ghost hears_next = { λ mind round may. M.hears_next mind.inner round may };
 
-    ghost says_next = { λ d round h s seat may made less. M.says_next d.inner round h s seat may made.2 less };
+    ghost says_next = { λ mind round heard shape seat may made less.
+        M.says_next mind.inner round heard shape seat may made.2 less };
 
     fn say(&mut self, alloc: Global, round: u32) -> Result<Say, OutOfMemory> {
         let word = self.inner.say(alloc, round)?;

@@ -24,8 +24,10 @@ use talk::Setting;
 pub fn read_drill(alloc: Global, text: &[u8], setting: &Setting) -> Result<Drill, DrillFault>
     ensures is { Reads result (drill_at setting.now text.now) }
     ensures lawful { IfOk result (λ d. AllLawful setting.now d) }
-    ensures few { IfOk result (λ d. how_many setting.now.receivers (λ j. names d (setting.now.shift + j)) ≤ setting.now.bound) }
-    ensures old { IfOk result (λ d. setting.now.shift ≢ 0 → how_many setting.now.dealers (names d) ≤ old_bound setting.now) }
+    ensures few { IfOk result
+        (λ d. how_many setting.now.receivers (λ j. names d (setting.now.shift + j)) ≤ setting.now.bound) }
+    ensures old { IfOk result
+        (λ d. setting.now.shift ≢ 0 → how_many setting.now.dealers (names d) ≤ old_bound setting.now) }
 {
     let drill = read_lines(alloc, text, setting)?;
     expect_few_named(&drill, setting)?;
@@ -33,19 +35,27 @@ pub fn read_drill(alloc: Global, text: &[u8], setting: &Setting) -> Result<Drill
 }
 
 // Refuses a drill that names more of a committee than may be faulty, the old one of a move first.
-fn expect_few_named(drill: &Drill, s: &Setting) -> Result<(), DrillFault>
-    ensures { MatchResult result (λ _. counted s.now drill.now ≡ Ok drill.now) (λ e. counted s.now drill.now ≡ Err e) }
+fn expect_few_named(drill: &Drill, setting: &Setting) -> Result<(), DrillFault>
+    ensures { MatchResult result (λ _. counted setting.now drill.now ≡ Ok drill.now)
+        (λ e. counted setting.now drill.now ≡ Err e) }
 {
-    if s.shift() != 0 {
-        let bound = s.dealers().saturating_sub(s.checks()).saturating_sub(1);
-        expect_few(named_among(drill, 0, s.dealers()), bound)?;
+    if setting.shift() != 0 {
+        let bound = setting
+            .dealers()
+            .saturating_sub(setting.checks())
+            .saturating_sub(1);
+        expect_few(named_among(drill, 0, setting.dealers()), bound)?;
     }
-    expect_few(named_among(drill, s.shift(), s.receivers()), s.bound())
+    expect_few(
+        named_among(drill, setting.shift(), setting.receivers()),
+        setting.bound(),
+    )
 }
 
 // Refuses more named members than may be faulty.
 fn expect_few(named: u32, bound: u32) -> Result<(), DrillFault>
-    ensures { MatchResult result (λ _. leb named bound ≡ true) (λ e. (leb named bound ≡ false) × (e ≡ DrillFault.TooMany named bound)) }
+    ensures { MatchResult result (λ _. leb named bound ≡ true)
+        (λ e. (leb named bound ≡ false) × (e ≡ DrillFault.TooMany named bound)) }
 {
     if named <= bound {
         Ok(())
@@ -55,29 +65,30 @@ fn expect_few(named: u32, bound: u32) -> Result<(), DrillFault>
 }
 
 // The orders of all lines.
-fn read_lines(alloc: Global, text: &[u8], s: &Setting) -> Result<Drill, DrillFault>
-    ensures { Reads result (lines_at s.now 1 [] (split 10 text.now)) }
+fn read_lines(alloc: Global, text: &[u8], setting: &Setting) -> Result<Drill, DrillFault>
+    ensures { Reads result (lines_at setting.now 1 [] (split 10 text.now)) }
 {
     let mut drill = Drill::none(alloc);
     let mut line: u64 = 1;
     let mut rest = text;
     while let Some(end) = cut_at(rest, b'\n') {
-        read_line(&mut drill, &rest[..end], line, s)?;
+        read_line(&mut drill, &rest[..end], line, setting)?;
         rest = &rest[end + 1..];
         line += 1;
     }
-    read_line(&mut drill, rest, line, s)?;
+    read_line(&mut drill, rest, line, setting)?;
     Ok(drill)
 }
 
 // Adds the order of a line.
-fn read_line(drill: &mut Drill, text: &[u8], line: u64, s: &Setting) -> Result<(), DrillFault>
-    ensures { MatchResult result (λ _. line_at s.now line drill.old text.now ≡ Ok drill.new) (λ e. Fails e (line_at s.now line drill.old text.now)) }
+fn read_line(drill: &mut Drill, text: &[u8], line: u64, setting: &Setting) -> Result<(), DrillFault>
+    ensures { MatchResult result (λ _. line_at setting.now line drill.old text.now ≡ Ok drill.new)
+        (λ e. Fails e (line_at setting.now line drill.old text.now)) }
 {
     if text.is_empty() || text[0] == b'#' {
         return Ok(());
     }
-    let said = read_words(text, s);
+    let said = read_words(text, setting);
     if let Some(party) = said.stranger {
         return Err(DrillFault::Stranger { line, party });
     }
@@ -89,7 +100,8 @@ fn read_line(drill: &mut Drill, text: &[u8], line: u64, s: &Setting) -> Result<(
 
 // Adds an order, unless its party has one for its round.
 fn add_order(drill: &mut Drill, line: u64, order: Order) -> Result<(), DrillFault>
-    ensures { MatchResult result (λ _. with_order line drill.old order ≡ Ok drill.new) (λ e. Fails e (with_order line drill.old order)) }
+    ensures { MatchResult result (λ _. with_order line drill.old order ≡ Ok drill.new)
+        (λ e. Fails e (with_order line drill.old order)) }
 {
     if drill.order_at(order.party, order.round).is_some() {
         return Err(DrillFault::BadLine { line });
@@ -106,9 +118,9 @@ struct Said {
 }
 
 // What a line's words say.
-fn read_words(text: &[u8], s: &Setting) -> Said
-    ensures stranger { result.stranger ≡ stranger_in s.now (split 32 text.now) }
-    ensures order { result.order ≡ order_in s.now (split 32 text.now) }
+fn read_words(text: &[u8], setting: &Setting) -> Said
+    ensures stranger { result.stranger ≡ stranger_in setting.now (split 32 text.now) }
+    ensures order { result.order ≡ order_in setting.now (split 32 text.now) }
 {
     let nothing = Said {
         stranger: None,
@@ -123,20 +135,22 @@ fn read_words(text: &[u8], s: &Setting) -> Said
     };
     let party = read_u64(&text[..first]);
     let round = read_u64(&rest[..second]);
-    read_verb(party, round, &rest[second + 1..], s)
+    read_verb(party, round, &rest[second + 1..], setting)
 }
 
 // What they say, given the numbers before the verb.
-fn read_verb(party: Option<u64>, round: Option<u64>, text: &[u8], s: &Setting) -> Said
-    ensures stranger { (p r : List ℕ) → party ≡ number_in p → round ≡ number_in r → result.stranger ≡ stranger_in s.now (p ∷ r ∷ split 32 text.now) }
-    ensures order { (p r : List ℕ) → party ≡ number_in p → round ≡ number_in r → result.order ≡ order_in s.now (p ∷ r ∷ split 32 text.now) }
+fn read_verb(party: Option<u64>, round: Option<u64>, text: &[u8], setting: &Setting) -> Said
+    ensures stranger { (first second : List ℕ) → party ≡ number_in first → round ≡ number_in second →
+        result.stranger ≡ stranger_in setting.now (first ∷ second ∷ split 32 text.now) }
+    ensures order { (first second : List ℕ) → party ≡ number_in first → round ≡ number_in second →
+        result.order ≡ order_in setting.now (first ∷ second ∷ split 32 text.now) }
 {
     match cut_at(text, b' ') {
         None => Said {
-            stranger: stranger_of(s, party, round, is_verb(text)),
-            order: order_of(s, party, round, plain_verb(text)),
+            stranger: stranger_of(setting, party, round, is_verb(text)),
+            order: order_of(setting, party, round, plain_verb(text)),
         },
-        Some(end) => read_argument(party, round, &text[..end], &text[end + 1..], s),
+        Some(end) => read_argument(party, round, &text[..end], &text[end + 1..], setting),
     }
 }
 
@@ -147,10 +161,12 @@ fn read_argument(
     round: Option<u64>,
     verb: &[u8],
     text: &[u8],
-    s: &Setting,
+    setting: &Setting,
 ) -> Said
-    ensures stranger { (p r : List ℕ) → party ≡ number_in p → round ≡ number_in r → result.stranger ≡ stranger_in s.now (p ∷ r ∷ verb.now ∷ split 32 text.now) }
-    ensures order { (p r : List ℕ) → party ≡ number_in p → round ≡ number_in r → result.order ≡ order_in s.now (p ∷ r ∷ verb.now ∷ split 32 text.now) }
+    ensures stranger { (first second : List ℕ) → party ≡ number_in first → round ≡ number_in second →
+        result.stranger ≡ stranger_in setting.now (first ∷ second ∷ verb.now ∷ split 32 text.now) }
+    ensures order { (first second : List ℕ) → party ≡ number_in first → round ≡ number_in second →
+        result.order ≡ order_in setting.now (first ∷ second ∷ verb.now ∷ split 32 text.now) }
 {
     if cut_at(text, b' ').is_some() {
         return Said {
@@ -160,18 +176,18 @@ fn read_argument(
     }
     let whole = is_verb(verb) && !text.is_empty();
     Said {
-        stranger: stranger_of(s, party, round, whole),
-        order: order_of(s, party, round, argued_verb(verb, text)),
+        stranger: stranger_of(setting, party, round, whole),
+        order: order_of(setting, party, round, argued_verb(verb, text)),
     }
 }
 
 // The party, where all is there and it is no seat.
-fn stranger_of(s: &Setting, party: Option<u64>, round: Option<u64>, verb: bool) -> Option<u64>
-    ensures { result ≡ stranger_of s.now party round verb }
+fn stranger_of(setting: &Setting, party: Option<u64>, round: Option<u64>, verb: bool) -> Option<u64>
+    ensures { result ≡ stranger_of setting.now party round verb }
 {
     let party = party?;
     round?;
-    if (1 <= party && party <= u64::from(s.seats())) || !verb {
+    if (1 <= party && party <= u64::from(setting.seats())) || !verb {
         return None;
     }
     Some(party)
@@ -179,17 +195,17 @@ fn stranger_of(s: &Setting, party: Option<u64>, round: Option<u64>, verb: bool) 
 
 // The order, where all is there and it is lawful.
 fn order_of(
-    s: &Setting,
+    setting: &Setting,
     party: Option<u64>,
     round: Option<u64>,
     verb: Option<Verb>,
 ) -> Option<Order>
-    ensures { result ≡ order_of s.now party round verb }
+    ensures { result ≡ order_of setting.now party round verb }
 {
     let party = party?;
     let round = round?;
     let verb = verb?;
-    if party > u64::from(s.seats()) || round > u64::from(s.rounds()) {
+    if party > u64::from(setting.seats()) || round > u64::from(setting.rounds()) {
         return None;
     }
     let order = Order {
@@ -197,7 +213,7 @@ fn order_of(
         round: round as u32,
         verb,
     };
-    if is_lawful(&order, s) {
+    if is_lawful(&order, setting) {
         Some(order)
     } else {
         None

@@ -21,41 +21,41 @@ use talk::{
 #[tactic(auto, using(crate::proofs::Ordered::names_receiver), unfolding(crate::specs::Word::drilled_word))]
 pub(crate) fn drilled(
     alloc: Global,
-    s: &Setting,
+    setting: &Setting,
     drill: &Drill,
     seat: u32,
     round: u32,
     second: &Say,
     word: Say,
 ) -> Result<Say, OutOfMemory>
-    requires { AllLawful s.now drill.now }
-    ensures { IfOk result (λ w. w ≡ drilled_word s.now drill.now seat round second.now word) }
+    requires { AllLawful setting.now drill.now }
+    ensures { IfOk result (λ w. w ≡ drilled_word setting.now drill.now seat round second.now word) }
 {
     match drill.order_at(seat, round) {
         None => Ok(word),
-        Some(verb) => ordered(alloc, s, seat, round, second, verb, word),
+        Some(verb) => ordered(alloc, setting, seat, round, second, verb, word),
     }
 }
 
 // What it says by a verb.
 fn ordered(
     alloc: Global,
-    s: &Setting,
+    setting: &Setting,
     seat: u32,
     round: u32,
     second: &Say,
     verb: Verb,
     word: Say,
 ) -> Result<Say, OutOfMemory>
-    requires { NamesReceiver s.now verb }
-    ensures { IfOk result (λ w. w ≡ ordered_word s.now seat round second.now (Some verb) word) }
+    requires { NamesReceiver setting.now verb }
+    ensures { IfOk result (λ w. w ≡ ordered_word setting.now seat round second.now (Some verb) word) }
 {
     match verb {
         Verb::Silent => Ok(Say::Pass),
         Verb::Late => Ok(late(word)),
         Verb::Wrong { .. } => Ok(word),
         Verb::Garble | Verb::Skew { .. } | Verb::Accuse { .. } | Verb::Veto => {
-            reworded(alloc, s, seat, round, second, verb, word)
+            reworded(alloc, setting, seat, round, second, verb, word)
         }
     }
 }
@@ -73,25 +73,25 @@ fn late(word: Say) -> Say
 // The word with its post and its ring messages as a verb changes them.
 fn reworded(
     alloc: Global,
-    s: &Setting,
+    setting: &Setting,
     seat: u32,
     round: u32,
     second: &Say,
     verb: Verb,
     word: Say,
 ) -> Result<Say, OutOfMemory>
-    requires { NamesReceiver s.now verb }
-    ensures { IfOk result (λ w. w ≡ reworded s.now seat round second.now verb word) }
+    requires { NamesReceiver setting.now verb }
+    ensures { IfOk result (λ w. w ≡ reworded setting.now seat round second.now verb word) }
 {
     match word {
         Say::Pass => Ok(Say::Pass),
         Say::Speak { post, rings } => Ok(Say::Speak {
-            post: ordered_post(alloc, s, round, second, verb, post)?,
-            rings: ordered_rings(alloc, s, seat, round, verb, rings)?,
+            post: ordered_post(alloc, setting, round, second, verb, post)?,
+            rings: ordered_rings(alloc, setting, seat, round, verb, rings)?,
         }),
         Say::PassThenSpeak { post, rings } => Ok(Say::PassThenSpeak {
-            post: ordered_post(alloc, s, round, second, verb, post)?,
-            rings: ordered_rings(alloc, s, seat, round, verb, rings)?,
+            post: ordered_post(alloc, setting, round, second, verb, post)?,
+            rings: ordered_rings(alloc, setting, seat, round, verb, rings)?,
         }),
     }
 }
@@ -99,21 +99,21 @@ fn reworded(
 // What a verb makes of a post.
 fn ordered_post(
     alloc: Global,
-    s: &Setting,
+    setting: &Setting,
     round: u32,
     second: &Say,
     verb: Verb,
     post: Post,
 ) -> Result<Post, OutOfMemory>
-    requires { NamesReceiver s.now verb }
-    ensures { IfOk result (λ p. p ≡ ordered_post s.now round second.now verb post) }
+    requires { NamesReceiver setting.now verb }
+    ensures { IfOk result (λ p. p ≡ ordered_post setting.now round second.now verb post) }
 {
     match verb {
         Verb::Garble => Ok(Post::Votes {
             list: VoteList::new(alloc),
         }),
         Verb::Skew { by } => skewed_post(alloc, round, by, post),
-        Verb::Accuse { receiver } => accused_by(alloc, s, receiver, second, post),
+        Verb::Accuse { receiver } => accused_by(alloc, setting, receiver, second, post),
         Verb::Veto => vetoed(alloc, post),
         Verb::Silent | Verb::Late | Verb::Wrong { .. } => Ok(post),
     }
@@ -122,17 +122,17 @@ fn ordered_post(
 // What a verb makes of the ring messages.
 fn ordered_rings(
     alloc: Global,
-    s: &Setting,
+    setting: &Setting,
     seat: u32,
     round: u32,
     verb: Verb,
     rings: RingList,
 ) -> Result<RingList, OutOfMemory>
-    ensures { IfOk result (λ l. l ≡ ordered_rings s.now seat round verb rings) }
+    ensures { IfOk result (λ l. l ≡ ordered_rings setting.now seat round verb rings) }
 {
     match verb {
-        Verb::Garble => garbled_rings(alloc, s.seats(), seat),
-        Verb::Skew { by } => skewed_rings(alloc, s, seat, round, by, rings),
+        Verb::Garble => garbled_rings(alloc, setting.seats(), seat),
+        Verb::Skew { by } => skewed_rings(alloc, setting, seat, round, by, rings),
         _ => Ok(rings),
     }
 }
@@ -165,32 +165,32 @@ fn garbled_ring(alloc: Global, place: u32, own: u32) -> Ring
 // What skew makes of the ring messages.
 fn skewed_rings(
     alloc: Global,
-    s: &Setting,
+    setting: &Setting,
     seat: u32,
     round: u32,
     by: Fe,
     rings: RingList,
 ) -> Result<RingList, OutOfMemory>
-    ensures { IfOk result (λ l. l ≡ skewed_rings s.now seat round by rings) }
+    ensures { IfOk result (λ l. l ≡ skewed_rings setting.now seat round by rings) }
 {
-    let to = lowest_other(s, seat);
+    let to = lowest_other(setting, seat);
     match round {
-        1 => deal_skewed(alloc, s.degree(), to, by, rings),
+        1 => deal_skewed(alloc, setting.degree(), to, by, rings),
         2 => cross_skewed(alloc, to, by, rings),
         _ => Ok(rings),
     }
 }
 
 // The seat of the lowest receiver on another seat.
-fn lowest_other(s: &Setting, seat: u32) -> u32
-    ensures is { result ≡ lowest_other s.now seat }
+fn lowest_other(setting: &Setting, seat: u32) -> u32
+    ensures is { result ≡ lowest_other setting.now seat }
     ensures small { (1 ≤ result) × (result ≤ 30) }
 {
-    let first = s.shift() + 1;
+    let first = setting.shift() + 1;
     if first == seat { first + 1 } else { first }
 }
 
-// The ring messages with k added to the constants of the rows that are dealt to a seat.
+// The ring messages with `by` added to the constants of the rows that are dealt to a seat.
 fn deal_skewed(
     alloc: Global,
     degree: u32,
@@ -211,7 +211,7 @@ fn deal_skewed(
     Ok(RingList::from_vec(items))
 }
 
-// The ring messages with k added to the first value of each pair for a seat.
+// The ring messages with `by` added to the first value of each pair for a seat.
 fn cross_skewed(alloc: Global, to: u32, by: Fe, rings: RingList) -> Result<RingList, OutOfMemory>
     requires { 1 ≤ to }
     ensures { IfOk result (λ l. l ≡ ring_changed to (skewed_cross by) rings) }
@@ -225,7 +225,7 @@ fn cross_skewed(alloc: Global, to: u32, by: Fe, rings: RingList) -> Result<RingL
     Ok(RingList::from_vec(items))
 }
 
-// A dealer's message with k added to the constant of each lane's row.
+// A dealer's message with `by` added to the constant of each lane's row.
 fn skewed_deal(alloc: Global, degree: u32, by: Fe, ring: &Ring) -> Result<Ring, OutOfMemory>
     requires { degree ≤ 4 }
     ensures { IfOk result (λ r. r ≡ skewed_deal degree by ring.now) }
@@ -241,7 +241,7 @@ fn skewed_deal(alloc: Global, degree: u32, by: Fe, ring: &Ring) -> Result<Ring, 
     }
 }
 
-// Crossing points with k added to the first of each pair.
+// Crossing points with `by` added to the first of each pair.
 fn skewed_cross(alloc: Global, by: Fe, ring: &Ring) -> Result<Ring, OutOfMemory>
     ensures { IfOk result (λ r. r ≡ skewed_cross by ring.now) }
 {
@@ -253,7 +253,7 @@ fn skewed_cross(alloc: Global, by: Fe, ring: &Ring) -> Result<Ring, OutOfMemory>
     }
 }
 
-// The elements with k added to the first of each `step`.
+// The elements with `by` added to the first of each `step`.
 fn added_each(alloc: Global, step: usize, by: Fe, list: &[Fe]) -> Result<FeList, OutOfMemory>
     requires { 0 < step }
     ensures { IfOk result (λ l. l ≡ added_each step by list.now) }
@@ -276,7 +276,7 @@ fn skewed_post(alloc: Global, round: u32, by: Fe, post: Post) -> Result<Post, Ou
     }
 }
 
-// Reveals with k added to the constant of each row.
+// Reveals with `by` added to the constant of each row.
 fn skewed_reveals(alloc: Global, by: Fe, post: Post) -> Result<Post, OutOfMemory>
     ensures { IfOk result (λ p. p ≡ skewed_reveals by post) }
 {
@@ -288,7 +288,7 @@ fn skewed_reveals(alloc: Global, by: Fe, post: Post) -> Result<Post, OutOfMemory
     }
 }
 
-// Each reveal, with k added to the constant of its row.
+// Each reveal, with `by` added to the constant of its row.
 fn reveals_skewed(alloc: Global, by: Fe, list: &[Reveal]) -> Result<RevealList, OutOfMemory>
     ensures { IfOk result (λ l. l ≡ map (skewed_reveal by) list.now) }
 {
@@ -299,7 +299,7 @@ fn reveals_skewed(alloc: Global, by: Fe, list: &[Reveal]) -> Result<RevealList, 
     Ok(skewed)
 }
 
-// A reveal with k added to the constant of its row.
+// A reveal with `by` added to the constant of its row.
 fn skewed_reveal(alloc: Global, by: Fe, reveal: &Reveal) -> Result<Reveal, OutOfMemory>
     ensures { IfOk result (λ r. r ≡ skewed_reveal by reveal.now) }
 {
@@ -311,7 +311,7 @@ fn skewed_reveal(alloc: Global, by: Fe, reveal: &Reveal) -> Result<Reveal, OutOf
     })
 }
 
-// A row with k added to its constant.
+// A row with `by` added to its constant.
 fn skewed_row(alloc: Global, by: Fe, row: &[Fe]) -> Result<FeList, OutOfMemory>
     ensures { IfOk result (λ l. l ≡ skewed_row by row.now) }
 {
@@ -322,7 +322,7 @@ fn skewed_row(alloc: Global, by: Fe, row: &[Fe]) -> Result<FeList, OutOfMemory>
     Ok(skewed)
 }
 
-// Shares of syndromes with k added to each.
+// Shares of syndromes with `by` added to each.
 #[tactic(auto, using(crate::proofs::Lists::added_to_each))]
 fn skewed_values(alloc: Global, by: Fe, post: Post) -> Result<Post, OutOfMemory>
     ensures { IfOk result (λ p. p ≡ skewed_values by post) }
@@ -362,19 +362,26 @@ fn all_no(alloc: Global, votes: &[bool]) -> Result<VoteList, OutOfMemory>
 // A post with a false complaint against a receiver in every instance.
 fn accused_by(
     alloc: Global,
-    s: &Setting,
+    setting: &Setting,
     receiver: u32,
     second: &Say,
     post: Post,
 ) -> Result<Post, OutOfMemory>
-    requires { (1 ≤ receiver) × (receiver ≤ s.now.receivers) }
-    ensures { IfOk result (λ p. p ≡ accused (instances s.now) receiver (ring_in (s.now.shift + receiver) second.now) post) }
+    requires { (1 ≤ receiver) × (receiver ≤ setting.now.receivers) }
+    ensures { IfOk result
+        (λ p. p ≡ accused (instances setting.now) receiver (ring_in (setting.now.shift + receiver) second.now) post) }
 {
     match post {
         Post::Complaints { list } => {
-            let crossing = second.sent(alloc, s.seat_of(receiver))?;
+            let crossing = second.sent(alloc, setting.seat_of(receiver))?;
             Ok(Post::Complaints {
-                list: accused_list(alloc, s.instances(), receiver, &crossing, list.as_slice())?,
+                list: accused_list(
+                    alloc,
+                    setting.instances(),
+                    receiver,
+                    &crossing,
+                    list.as_slice(),
+                )?,
             })
         }
         other => Ok(other),

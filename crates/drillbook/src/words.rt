@@ -11,7 +11,9 @@ use field61::Fe;
 // Where the first separator stands.
 #[tactic(auto, using(crate::proofs::Parts::cut_is))]
 pub(crate) fn cut_at(text: &[u8], separator: u8) -> Option<usize>
-    ensures { MatchOption result (split separator text.now ≡ text.now ∷ []) (λ k. (k < length text.now) × (split separator text.now ≡ take k text.now ∷ split separator (drop (k + 1) text.now))) }
+    ensures { MatchOption result (split separator text.now ≡ text.now ∷ [])
+        (λ k. (k < length text.now)
+        × (split separator text.now ≡ take k text.now ∷ split separator (drop (k + 1) text.now))) }
 {
     separator_at(text, separator)
 }

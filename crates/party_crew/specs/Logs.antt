@@ -8,32 +8,34 @@ use Rattle.roundboard.specs.Rule.{In, event}
 use Rattle.roundboard.specs.declared.cells.Cells.{Cells}
 use Rattle.roundboard.specs.Cells.{knows}
 
--- nothing was posted or passed in round r or later
-pub record Fresh (r : ℕ) (events : List Event) : Type 0 where
-  pub posts : (q k w : ℕ) → r ≤ q → In (event q (Posted k w)) events → ⊥
-  pub passes : (q k w : ℕ) → r ≤ q → In (event q (Passed k w)) events → ⊥
+-- nothing was posted or passed in this round or later
+pub record Fresh (round : ℕ) (events : List Event) : Type 0 where
+  pub posts : (later place word : ℕ) → round ≤ later → In (event later (Posted place word)) events → ⊥
+  pub passes : (later place word : ℕ) → round ≤ later → In (event later (Passed place word)) events → ⊥
 
 -- what was known of a cell stays known
 abbrev pub OnlyLearns : {T : Type 0} → Cells T → Cells T → Type 0
-OnlyLearns {T} a b = (i : ℕ) (x : T) → knows a i ≡ Some x → knows b i ≡ Some x
+OnlyLearns {T} before after = (cell : ℕ) (value : T) → knows before cell ≡ Some value → knows after cell ≡ Some value
 
--- nothing was posted in round r, and nothing was passed
+-- nothing was posted in the round, and nothing was passed
 abbrev pub NoPostIn : ℕ → List Event → Type 0
-NoPostIn r events = (k w : ℕ) → In (event r (Posted k w)) events → ⊥
+NoPostIn round events = (place word : ℕ) → In (event round (Posted place word)) events → ⊥
 
 abbrev pub NoPassIn : ℕ → List Event → Type 0
-NoPassIn r events = (k w : ℕ) → In (event r (Passed k w)) events → ⊥
+NoPassIn round events = (place word : ℕ) → In (event round (Passed place word)) events → ⊥
 
--- the place posted in round r and did not pass in it
+-- the place posted in the round and did not pass in it
 abbrev pub InTimeAt : ℕ → ℕ → List Event → Type 0
-InTimeAt r place events = ((w : ℕ) × In (event r (Posted place w)) events) × ((w : ℕ) → In (event r (Passed place w)) events → ⊥)
+InTimeAt round place events =
+    ((word : ℕ) × In (event round (Posted place word)) events)
+    × ((word : ℕ) → In (event round (Passed place word)) events → ⊥)
 
--- the place posted in round r
+-- the place posted in the round
 abbrev pub PostedAt : ℕ → ℕ → List Event → Type 0
-PostedAt r place events = (w : ℕ) × In (event r (Posted place w)) events
+PostedAt round place events = (word : ℕ) × In (event round (Posted place word)) events
 
--- the word has a ring message for each of n seats
+-- the word has a ring message for each of so many seats
 abbrev pub AllRings : ℕ → Say → Type 0
-AllRings n (Speak p rs) = length rs ≡ n
-AllRings n Pass = Unit {0}
-AllRings n (PassThenSpeak p rs) = length rs ≡ n
+AllRings count (Speak post rings) = length rings ≡ count
+AllRings count Pass = Unit {0}
+AllRings count (PassThenSpeak post rings) = length rings ≡ count

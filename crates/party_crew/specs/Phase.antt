@@ -14,34 +14,37 @@ use Rattle.roundboard.specs.Rule.{IsPart}
 -- the mask, or 0 where there is none
 abbrev pub shown : Option ℕ → ℕ
 shown None = 0
-shown (Some m) = m
+shown (Some mask) = mask
 
 module _ {S : ℕ} where
-  -- the mask of round r, from 0
+  -- the mask of a round, from 0
   abbrev pub round_mask : ClosedBoard Post S → ℕ → ℕ
-  round_mask b r = shown (mask_at b r)
+  round_mask board round = shown (mask_at board round)
 
   -- the masks, the first round's first
   abbrev pub board_masks : ClosedBoard Post S → List ℕ
-  board_masks b = tabulate 0 (rounds_closed b) (round_mask b)
+  board_masks board = tabulate 0 (rounds_closed board) (round_mask board)
 
-  -- who was cut in round r, from 1
+  -- who was cut in a round, from 1
   abbrev pub board_cuts : ClosedBoard Post S → ℕ → ℕ
-  board_cuts b r = cut_at b (r - 1)
+  board_cuts board round = cut_at board (round - 1)
 
-  -- what the warden cut is a part of what the pace answered, the pace was asked at most as often as the warden looked who is missing, and nobody was cut where no answer named a seat
-  pub record PhasePaced (cuts asked : ℕ → ℕ) (before after : ℕ) (b : ClosedBoard Post S) : Type 0 where
-    pub part : (r : ℕ) → r < rounds_closed b → IsPart (cut_at b r) (cuts (r + 1))
-    pub shown : (r : ℕ) → r < rounds_closed b → asked (r + 1) ≤ shows_at b r
-    pub quiet : ((r : ℕ) → r < rounds_closed b → cut_at b r ≡ 0) ⊎ Rose before after
+  -- what the warden cut is a part of what the pace answered, the pace was asked at most as often as the warden
+  -- looked who is missing, and nobody was cut where no answer named a seat
+  pub record PhasePaced (cuts asked : ℕ → ℕ) (before after : ℕ) (board : ClosedBoard Post S) : Type 0 where
+    pub part : (round : ℕ) → round < rounds_closed board → IsPart (cut_at board round) (cuts (round + 1))
+    pub shown : (round : ℕ) → round < rounds_closed board → asked (round + 1) ≤ shows_at board round
+    pub quiet : ((round : ℕ) → round < rounds_closed board → cut_at board round ≡ 0) ⊎ Rose before after
 
   -- the board has so many rounds, and each has a mask
-  pub record HasAllMasks (rounds : ℕ) (b : ClosedBoard Post S) : Type 0 where
-    pub count : rounds_closed b ≡ rounds
-    pub each : (r : ℕ) → r < rounds → mask_at b r ≡ Some (round_mask b r)
+  pub record HasAllMasks (rounds : ℕ) (board : ClosedBoard Post S) : Type 0 where
+    pub count : rounds_closed board ≡ rounds
+    pub each : (round : ℕ) → round < rounds → mask_at board round ≡ Some (round_mask board round)
 
   -- the post of each seat in each mask is that of its word in the run; rounds and places count from 0
   abbrev pub PostsAreWords : {M : Type 0} → Ways M → Shape → ClosedBoard Post S → Reader Post S → List M → Type 0
-  PostsAreWords w s b reader minds =
-      (r k : ℕ) → r < rounds_closed b → k < S → has (round_mask b r) (k + 1) ≡ true →
-      post_at reader r k ≡ Some (post_in (get_or (words_of w (r + 1) (sync w s 1 (take r (board_masks b)) minds)) k Pass))
+  PostsAreWords ways shape board reader minds =
+      (round place : ℕ) → round < rounds_closed board → place < S → has (round_mask board round) (place + 1) ≡ true →
+      post_at reader round place
+      ≡ Some (post_in
+      (get_or (words_of ways (round + 1) (sync ways shape 1 (take round (board_masks board)) minds)) place Pass))

@@ -42,7 +42,10 @@ pub(crate) fn attend_all<M: Mind, G: Gate, const S: usize, R: Wait>(
     ensures pen { IsPen board.now pen.new }
     ensures place { (place_of pen.new) ≡ (place_of pen.old) }
     ensures same { SameRings end.old end.new }
-    ensures account { OnOk result ((turns : List Turn) × (length turns ≡ rounds setting.now) × Account (ways M.word M.after_say M.after_hear) setting.now S me mind.old mind.new (events pen.new) (knows (cells_of pen.new)) (sent_to end.new) (got_from end.new) turns) }
+    ensures account { OnOk result
+        ((turns : List Turn) × (length turns ≡ rounds setting.now)
+        × Account (ways M.word M.after_say M.after_hear) setting.now S me mind.old mind.new (events pen.new)
+        (knows (cells_of pen.new)) (sent_to end.new) (got_from end.new) turns) }
 {
     let mut out = false;
     for row in 0..setting.rounds() {

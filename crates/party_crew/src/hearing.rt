@@ -65,7 +65,8 @@ pub(crate) fn take_posts<const S: usize, R: Wait>(
     ensures place { (place_of pen.new) ≡ (place_of pen.old) }
     ensures log { (log_of pen.new) ≡ (log_of pen.old) }
     ensures learns { OnlyLearns (cells_of pen.old) (cells_of pen.new) }
-    ensures taken { IfOk result (λ ps. (raw : List PostValue) × PostsTaken setting.now S round mask S (cells_of pen.new) raw ps) }
+    ensures taken { IfOk result
+        (λ ps. (raw : List PostValue) × PostsTaken setting.now S round mask S (cells_of pen.new) raw ps) }
 {
     let mut posts = PostList::new(alloc);
     for place in 0..S {
@@ -97,7 +98,9 @@ fn take_ring<const S: usize, R: Wait>(
     requires seat { (1 ≤ seat) × (seat ≤ S) × (S ≤ 30) }
     ensures same { SameRings end.old end.new }
     ensures others { OnlyGot (seat - 1) end.old end.new }
-    ensures taken { (x : RingValue) × OneRing setting.now round mask me seat (got_from end.old (seat - 1)) (got_from end.new (seat - 1)) x result }
+    ensures taken { (raw : RingValue)
+        × OneRing setting.now round mask me seat
+        (got_from end.old (seat - 1)) (got_from end.new (seat - 1)) raw result }
 {
     if seat == me || !in_mask(mask, seat) {
         return Ring::Nothing;
@@ -117,7 +120,9 @@ pub(crate) fn take_rings<const S: usize, R: Wait>(
     requires few { S ≤ 30 }
     ensures same { SameRings end.old end.new }
     ensures sent { (k : ℕ) → (sent_to end.new k ≡ sent_to end.old k) × (room_to end.new k ≡ room_to end.old k) }
-    ensures taken { IfOk result (λ rs. (raw : List RingValue) × RingsTaken setting.now round mask me S (got_from end.old) (got_from end.new) raw rs) }
+    ensures taken { IfOk result
+        (λ rs. (raw : List RingValue)
+        × RingsTaken setting.now round mask me S (got_from end.old) (got_from end.new) raw rs) }
 {
     let mut rings = RingList::new(alloc);
     for place in 0..S {
@@ -148,7 +153,9 @@ pub(crate) fn hear_round<const S: usize, R: Wait>(
     ensures learns { OnlyLearns (cells_of pen.old) (cells_of pen.new) }
     ensures sent { (k : ℕ) → (sent_to end.new k ≡ sent_to end.old k) × (room_to end.new k ≡ room_to end.old k) }
     ensures same { SameRings end.old end.new }
-    ensures heard { IfOk result (λ r. (t : Turn) × HeardRound setting.now S me round r.0 r.1 (events pen.new) (knows (cells_of pen.new)) (got_from end.old) (got_from end.new) t) }
+    ensures heard { IfOk result
+        (λ r. (t : Turn) × HeardRound setting.now S me round r.0 r.1 (events pen.new) (knows (cells_of pen.new))
+        (got_from end.old) (got_from end.new) t) }
 {
     let Some(mask) = await_mask(rt, board, pen, round) else {
         return Err(OutOfMemory);

@@ -25,7 +25,8 @@ use std::sync::Wait;
 use std::thread::Threads;
 use talk::{Mind, Post, Ring, Setting};
 
-/// What a finished phase leaves: the closed board with the reader of its posts, the record of the rings, and the minds by seat.
+/// What a finished phase leaves: the closed board with the reader of its posts, the record of the rings, and the
+/// minds by seat.
 #[derive(Drop)]
 pub struct PhaseRecord<M: Mind, const S: usize> {
     pub board: ClosedBoard<Post, S>,
@@ -87,9 +88,14 @@ fn attend_on<
     ensures attended { C.attended_count crew.old ≤ C.attended_count crew.new }
     ensures few { C.attended_count crew.new ≤ C.attended_count crew.old + S }
     ensures calm { C.calm crew.old → C.calm crew.new }
-    ensures took { IfOk result (λ r. AllTook (ways M.word M.after_say M.after_hear) setting.now board.now minds.items ends.entry.items r.0.0.items r.0.1.items r.0.2.items) }
+    ensures took { IfOk result
+        (λ r. AllTook (ways M.word M.after_say M.after_hear) setting.now board.now minds.items ends.entry.items
+        r.0.0.items r.0.1.items r.0.2.items) }
     ensures warden { IfOk result (λ r. IsWarden board.now r.1) }
-    ensures paced { IfOk result (λ r. (first : ℕ) → Paced (Q.cuts_of pace.old) (Q.asked_of pace.old) (Q.answered_count pace.old) first (watched warden.entry) → Paced (Q.cuts_of r.2.now) (Q.asked_of r.2.now) (Q.answered_count r.2.now) first (watched r.1)) }
+    ensures paced { IfOk result
+        (λ r. (first : ℕ) →
+        Paced (Q.cuts_of pace.old) (Q.asked_of pace.old) (Q.answered_count pace.old) first (watched warden.entry) →
+        Paced (Q.cuts_of r.2.now) (Q.asked_of r.2.now) (Q.answered_count r.2.now) first (watched r.1)) }
     ensures same { IfOk result (λ r. r.2.ghost_name ≡ pace.entry.ghost_name) }
     ensures counted { IfOk result (λ _. C.attended_count crew.new ≡ min (C.attended_count crew.old + S) (2 ^ 64 - 1)) }
     ensures cause { result ≡ Err PhaseFault.NoThread → Rose (C.fault_count crew.old) (C.fault_count crew.new) }
@@ -121,7 +127,8 @@ fn attend_on<
     Ok((opened, warden, pace))
 }
 
-/// Runs all rounds of a phase with a thread for each seat: the mind at place `k` sits on seat `k + 1`. The calling thread conducts the board, and cuts the seats that the pace answers.
+/// Runs all rounds of a phase with a thread for each seat: the mind at place `k` sits on seat `k + 1`. The calling
+/// thread conducts the board, and cuts the seats that the pace answers.
 pub fn run_phase<
     M: Mind + Send,
     C: Crew,
@@ -147,12 +154,21 @@ pub fn run_phase<
     ensures attended { C.attended_count crew.old ≤ C.attended_count crew.new }
     ensures few { C.attended_count crew.new ≤ C.attended_count crew.old + S }
     ensures calm { C.calm crew.old → C.calm crew.new }
-    ensures minds { IfOk result (λ p. p.minds.items ≡ sync (ways M.word M.after_say M.after_hear) setting.now 1 (board_masks p.board) minds.items) }
-    ensures allowed { IfOk result (λ p. AllAllowed (ways M.word M.after_say M.after_hear) setting.now 1 (all_seats setting.now) (board_cuts p.board) (board_masks p.board) minds.items) }
-    ensures answered { IfOk result (λ p. AllAllowed (ways M.word M.after_say M.after_hear) setting.now 1 (all_seats setting.now) (Q.cuts_of pace.new) (board_masks p.board) minds.items) }
-    ensures paced { IfOk result (λ p. PhasePaced (Q.cuts_of pace.new) (Q.asked_of pace.new) (Q.answered_count pace.old) (Q.answered_count pace.new) p.board) }
+    ensures minds { IfOk result
+        (λ p. p.minds.items ≡ sync (ways M.word M.after_say M.after_hear) setting.now 1
+        (board_masks p.board) minds.items) }
+    ensures allowed { IfOk result
+        (λ p. AllAllowed (ways M.word M.after_say M.after_hear) setting.now 1 (all_seats setting.now)
+        (board_cuts p.board) (board_masks p.board) minds.items) }
+    ensures answered { IfOk result
+        (λ p. AllAllowed (ways M.word M.after_say M.after_hear) setting.now 1 (all_seats setting.now)
+        (Q.cuts_of pace.new) (board_masks p.board) minds.items) }
+    ensures paced { IfOk result
+        (λ p. PhasePaced (Q.cuts_of pace.new) (Q.asked_of pace.new) (Q.answered_count pace.old)
+        (Q.answered_count pace.new) p.board) }
     ensures masks { IfOk result (λ p. HasAllMasks (rounds setting.now) p.board) }
-    ensures posts { IfOk result (λ p. PostsAreWords (ways M.word M.after_say M.after_hear) setting.now p.board p.reader minds.items) }
+    ensures posts { IfOk result
+        (λ p. PostsAreWords (ways M.word M.after_say M.after_hear) setting.now p.board p.reader minds.items) }
     ensures reader { IfOk result (λ p. IsReader p.board p.reader) }
     ensures rings { IfOk result (λ p. (i j : ℕ) → i < S → j < S → IsPrefix (got_in p.rings i j) (sent_in p.rings i j)) }
     ensures counted { IfOk result (λ _. C.attended_count crew.new ≡ min (C.attended_count crew.old + S) (2 ^ 64 - 1)) }

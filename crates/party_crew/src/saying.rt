@@ -36,7 +36,8 @@ pub(crate) fn post_value<T: Drop, const S: usize, R: Wait>(
     ensures learns { OnlyLearns (cells_of pen.old) (cells_of pen.new) }
     ensures wrote { OnOk result (knows (cells_of pen.new) (cell_of S (round - 1) (place_of pen.old)) ≡ Some value) }
     ensures posted { OnOk result (PostedAt (round - 1) (place_of pen.old) (events pen.new)) }
-    ensures in_time { OnOk result (NoPassIn (round - 1) (events pen.old) → InTimeAt (round - 1) (place_of pen.old) (events pen.new)) }
+    ensures in_time { OnOk result
+        (NoPassIn (round - 1) (events pen.old) → InTimeAt (round - 1) (place_of pen.old) (events pen.new)) }
 {
     let mut value = value;
     for _ in rt.forever() {

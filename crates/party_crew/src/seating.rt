@@ -52,7 +52,8 @@ pub(crate) fn seat_all<'b, M: Mind, G: Gate, const S: usize>(
     requires pens { length pens.items ≡ S }
     requires ends { length ends.items ≡ S }
     ensures count { IfOk result (λ v. length v.items ≡ S) }
-    ensures placed { IfOk result (λ v. ArePlaced board.now setting.now minds.items pens.entry.items ends.entry.items v.items) }
+    ensures placed { IfOk result
+        (λ v. ArePlaced board.now setting.now minds.items pens.entry.items ends.entry.items v.items) }
 {
     let mut minds = minds;
     let mut pens = pens;

@@ -135,7 +135,8 @@ fn masks_of<C: Crew, G: Gate + Sync, Q: Pace + Send, R: Threads + Wait + Sync>(
     }
 }
 
-// Whether a phase in which nobody is cut goes through with everyone in each mask, while the seat `held` waits for `awaited`.
+// Whether a phase in which nobody is cut goes through with everyone in each mask, while the seat `held` waits for
+// `awaited`.
 fn gated<R: Threads + Wait + Sync>(
     rt: &R,
     alloc: Global,

@@ -62,7 +62,11 @@ pub(crate) fn take_turn<M: Mind, G: Gate, const S: usize, R: Wait>(
     ensures made { OnOk result (M.made_for mind.new setting.now me) }
     ensures room { (k : ℕ) → k < S → room_to end.old k ≤ room_to end.new k + 1 }
     ensures same { SameRings end.old end.new }
-    ensures turn { IfOk result (λ now_out. (t : Turn) × TookTurn (ways M.word M.after_say M.after_hear) setting.now S me round out now_out mind.old mind.new (events pen.old) (events pen.new) (knows (cells_of pen.old)) (knows (cells_of pen.new)) (sent_to end.old) (sent_to end.new) (got_from end.old) (got_from end.new) t) }
+    ensures turn { IfOk result
+        (λ now_out. (t : Turn)
+        × TookTurn (ways M.word M.after_say M.after_hear) setting.now S me round out now_out mind.old mind.new
+        (events pen.old) (events pen.new) (knows (cells_of pen.old)) (knows (cells_of pen.new)) (sent_to end.old)
+        (sent_to end.new) (got_from end.old) (got_from end.new) t) }
 {
     gate.reach(rt, me, round);
     let word = mind.say(alloc, round)?;

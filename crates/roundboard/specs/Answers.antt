@@ -20,55 +20,61 @@ use Rattle.roundboard.specs.Cells.{knows, missed}
 use Rattle.counters.specs.Counts.{RoseByOne}
 use Rattle.roundboard.specs.declared.cells.Cells.{Cells}
 
--- a look that found the frozen word unset, and then the control word c
+-- a look that found the frozen word unset, and then this control word
 abbrev pub LooksUnset : ℕ → ℕ → List Event → List Event → Type 0
-LooksUnset r c old new = (f : ℕ) × (new ≡ event control_round (SawControl c) ∷ (event r (Looked f) ∷ old)) × (mask_in f ≡ None)
+LooksUnset round control old new = (frozen : ℕ)
+    × (new ≡ event control_round (SawControl control) ∷ (event round (Looked frozen) ∷ old)) × (mask_in frozen ≡ None)
 
--- a look at round r: the answer is read off the words that its own loads found
+-- a look at a round: the answer is read off the words that its own loads found
 abbrev pub LookTells : ℕ → Look → List Event → List Event → Type 0
-LookTells r (Frozen m) old new = (f : ℕ) × (new ≡ event r (Looked f) ∷ old) × (mask_in f ≡ Some m)
-LookTells r NotYet old new = (c : ℕ) × LooksUnset r c old new × (bit_at c 0 ≡ 0)
-LookTells r Aborted old new = (c : ℕ) × LooksUnset r c old new × (bit_at c 0 ≡ 1)
+LookTells round (Frozen mask) old new =
+    (frozen : ℕ) × (new ≡ event round (Looked frozen) ∷ old) × (mask_in frozen ≡ Some mask)
+LookTells round NotYet old new = (control : ℕ) × LooksUnset round control old new × (bit_at control 0 ≡ 0)
+LookTells round Aborted old new = (control : ℕ) × LooksUnset round control old new × (bit_at control 0 ≡ 1)
 
 -- the look that ended a wait
 abbrev pub last_look : Waited → Look
-last_look (WaitedFrozen m) = Frozen m
+last_look (WaitedFrozen mask) = Frozen mask
 last_look WaitedAborted = Aborted
 
 -- the arrivals word that a post found
 abbrev pub word_of : Post → ℕ
-word_of (InTime w) = w
-word_of (Late w) = w
+word_of (InTime word) = word
+word_of (Late word) = word
 
 -- in time exactly where the word was not closed
 abbrev pub Timely : Post → Type 0
-Timely (InTime w) = bit_at w 63 ≡ 0
-Timely (Late w) = bit_at w 63 ≡ 1
+Timely (InTime word) = bit_at word 63 ≡ 0
+Timely (Late word) = bit_at word 63 ≡ 1
 
--- a post that found the word closed found the passed bit of its place k
+-- a post that found the word closed found the passed bit of its place
 abbrev pub LateBit : ℕ → Post → Type 0
-LateBit k (InTime w) = Unit {0}
-LateBit k (Late w) = bit_at w (30 + k) ≡ 1
+LateBit place (InTime word) = Unit {0}
+LateBit place (Late word) = bit_at word (30 + place) ≡ 1
 
--- a post of the place k in the round r, with the closing step where it is due
+-- a post of the place in the round, with the closing step where it is due
 abbrev pub PostTells : ℕ → ℕ → ℕ → Post → List Event → List Event → Type 0
-PostTells seats r k p old new = Arrival seats r (Posted k (word_of p)) (word_of p) (bit_or (word_of p) (2 ^ k)) old new
+PostTells seats round place post old new =
+    Arrival seats round (Posted place (word_of post)) (word_of post) (bit_or (word_of post) (2 ^ place)) old new
 
--- a pass of the place k in the round r, which found the word w
+-- a pass of the place in the round, which found the word
 abbrev pub PassTells : ℕ → ℕ → ℕ → ℕ → List Event → List Event → Type 0
-PassTells seats r k w old new = Arrival seats r (Passed k w) w (bit_or w (2 ^ (30 + k))) old new
+PassTells seats round place word old new =
+    Arrival seats round (Passed place word) word (bit_or word (2 ^ (30 + place))) old new
 
--- a cut of the mask m in the round r, which found the word w
+-- a cut of the seats of the mask in the round, which found the word
 abbrev pub CutTells : ℕ → ℕ → ℕ → ℕ → List Event → List Event → Type 0
-CutTells seats r m w old new = Arrival seats r (Cut m w) w (bit_or w (m * 2 ^ 30)) old new
+CutTells seats round mask word old new = Arrival seats round (Cut mask word) word (bit_or word (mask * 2 ^ 30)) old new
 
 -- the value comes back, and the cell refused it where that is the answer; want of memory leaves the count of refusals
 abbrev pub FaultTells : {T : Type 0} → T → ℕ → ℕ → PostFault T → Type 0
-FaultTells x before now (OutOfMemory back) = (back ≡ x) × (now ≡ before)
-FaultTells x before now (Cell back) = (back ≡ x) × RoseByOne before now
+FaultTells value before now (OutOfMemory back) = (back ≡ value) × (now ≡ before)
+FaultTells value before now (Cell back) = (back ≡ value) × RoseByOne before now
 
--- a read of the cell i, of a place that is in the mask where the bit is 1; its count of misses rises where the cell showed no value, and else stands
+-- a read of the cell at the index, of a place that is in the mask where the bit is 1; the cell's count of misses rises where it showed no value, and else stands
 abbrev pub ReadTells : {T : Type 0} → ℕ → ℕ → Cells T → Cells T → Read T → Type 0
-ReadTells bit i old new Absent = (bit ≡ 0) × (missed new i ≡ missed old i)
-ReadTells bit i old new (Got x) = (bit ≡ 1) × (knows new i ≡ Some x.now) × (missed new i ≡ missed old i)
-ReadTells bit i old new Unread = (bit ≡ 1) × (knows old i ≡ None) × RoseByOne (missed old i) (missed new i)
+ReadTells bit index old new Absent = (bit ≡ 0) × (missed new index ≡ missed old index)
+ReadTells bit index old new (Got post) =
+    (bit ≡ 1) × (knows new index ≡ Some post.now) × (missed new index ≡ missed old index)
+ReadTells bit index old new Unread =
+    (bit ≡ 1) × (knows old index ≡ None) × RoseByOne (missed old index) (missed new index)

@@ -16,32 +16,42 @@ StepTells = Step (Unit {0}) → Sat → ℕ → Sat → Type 0
 
 -- a post that found the word closed found the passed bit of its place
 abbrev pub posted : StepTells
-posted st m found n = (r k : ℕ) → st.word ≡ arrivals_of r → st.first ≡ 2 ^ k → (n ≡ (with_event r (Posted k found) m.0, m.1)) × (bit_at found 63 ≡ 1 → bit_at found (30 + k) ≡ 1)
+posted step old found new = (round place : ℕ) → step.word ≡ arrivals_of round → step.first ≡ 2 ^ place
+    → (new ≡ (with_event round (Posted place found) old.0, old.1))
+    × (bit_at found 63 ≡ 1 → bit_at found (30 + place) ≡ 1)
 
 abbrev pub passed : StepTells
-passed st m found n = (r k : ℕ) → st.word ≡ arrivals_of r → st.first ≡ 2 ^ (30 + k) → n ≡ (with_event r (Passed k found) m.0, m.1)
+passed step old found new = (round place : ℕ) → step.word ≡ arrivals_of round → step.first ≡ 2 ^ (30 + place)
+    → new ≡ (with_event round (Passed place found) old.0, old.1)
 
 -- the passed bits of all places of the mask are set at once
 abbrev pub cut : StepTells
-cut st m found n = (r seats : ℕ) → st.word ≡ arrivals_of r → st.first ≡ seats * 2 ^ 30 → n ≡ (with_event r (Cut seats found) m.0, m.1)
+cut step old found new = (round mask : ℕ) → step.word ≡ arrivals_of round → step.first ≡ mask * 2 ^ 30
+    → new ≡ (with_event round (Cut mask found) old.0, old.1)
 
 -- a closing step that found the word closed comes too late
 abbrev pub closed : StepTells
-closed st m found n = (r : ℕ) → st.word ≡ arrivals_of r → (bit_at found 63 ≡ 0 → n ≡ (with_event r (Closed found) m.0, m.1)) × (bit_at found 63 ≡ 1 → n ≡ (with_event r (Lost found) m.0, m.1))
+closed step old found new = (round : ℕ) → step.word ≡ arrivals_of round
+    → (bit_at found 63 ≡ 0 → new ≡ (with_event round (Closed found) old.0, old.1))
+    × (bit_at found 63 ≡ 1 → new ≡ (with_event round (Lost found) old.0, old.1))
 
 abbrev pub published : StepTells
-published st m found n = (r c : ℕ) → st.word ≡ frozen_of r → In (event r (Closed c)) m.0.events → n ≡ (with_event r (Published c) m.0, m.1)
+published step old found new = (round closing : ℕ) → step.word ≡ frozen_of round
+    → In (event round (Closed closing)) old.0.events → new ≡ (with_event round (Published closing) old.0, old.1)
 
 -- what was seen is found again
 abbrev pub looked : StepTells
-looked st m found n = (r : ℕ) → st.word ≡ frozen_of r
-    → (n ≡ (with_event r (Looked found) m.0, m.1)) × ((before : ℕ) → In (event r (Looked before)) m.0.events → (before ≡ 0) ⊎ (before ≡ found))
-    × ((c : ℕ) → In (event r (Published c)) m.0.events → found ≡ frozen_word c)
+looked step old found new = (round : ℕ) → step.word ≡ frozen_of round
+    → (new ≡ (with_event round (Looked found) old.0, old.1))
+    × ((before : ℕ) → In (event round (Looked before)) old.0.events → (before ≡ 0) ⊎ (before ≡ found))
+    × ((closing : ℕ) → In (event round (Published closing)) old.0.events → found ≡ frozen_word closing)
 
 abbrev pub aborted : StepTells
-aborted st m found n = n ≡ (with_event control_round Aborted m.0, m.1)
+aborted step old found new = new ≡ (with_event control_round Aborted old.0, old.1)
 
 -- who has aborted, and who has found the abort bit, finds it
 abbrev pub controlled : StepTells
-controlled st m found n = (n ≡ (with_event control_round (SawControl found) m.0, m.1)) × (In (event control_round Aborted) m.0.events → bit_at found 0 ≡ 1)
-    × ((before : ℕ) → In (event control_round (SawControl before)) m.0.events → bit_at before 0 ≤ bit_at found 0)
+controlled step old found new = (new ≡ (with_event control_round (SawControl found) old.0, old.1))
+    × (In (event control_round Aborted) old.0.events → bit_at found 0 ≡ 1)
+    × ((before : ℕ) → In (event control_round (SawControl before)) old.0.events
+    → bit_at before 0 ≤ bit_at found 0)

@@ -29,7 +29,8 @@ pub struct Pen<T: Drop, const S: usize> {
     pub(crate) ghost low: { (log.place < S) × (S ≤ 30) },
     pub(crate) ghost refusals: { length cells.refusals.items ≡ length log.pages.items },
     pub(crate) ghost misses: { length cells.misses.items ≡ length log.pages.items * S },
-    pub(crate) ghost kept: { (r k w : ℕ) → In (event r (Posting k w)) log.seat.me.0.events → ¬ (knows cells (r * S + log.place) ≡ None) },
+    pub(crate) ghost kept: { (round place found : ℕ) → In (event round (Posting place found)) log.seat.me.0.events
+        → ¬ (knows cells (round * S + log.place) ≡ None) },
     pub(crate) ghost uncut: { NoCuts log.seat.me.0.events },
 }
 

@@ -34,8 +34,11 @@ impl<T: Drop, const S: usize> Board<T, S> {
         ensures place { place_of pen.new ≡ place_of pen.old }
         ensures timely { IfOk result Timely }
         ensures late_bit { IfOk result (LateBit (place_of pen.old)) }
-        ensures told { IfOk result (λ p. PostTells S (round - 1) (place_of pen.old) p (events pen.old) (events pen.new)) }
-        ensures closer { (c : ℕ) → In (event (round - 1) (Closing c)) (events pen.new) → In (event (round - 1) (Closing c)) (events pen.old) ⊎ (mask_of pen.new round ≡ Some (c % 2 ^ 30)) }
+        ensures told { IfOk result (λ p.
+            PostTells S (round - 1) (place_of pen.old) p (events pen.old) (events pen.new)) }
+        ensures closer { (closing : ℕ) → In (event (round - 1) (Closing closing)) (events pen.new)
+            → In (event (round - 1) (Closing closing)) (events pen.old)
+            ⊎ (mask_of pen.new round ≡ Some (closing % 2 ^ 30)) }
         ensures value { OnOk result (known_of pen.new round (place_of pen.old + 1) ≡ Some value) }
         ensures cells { OnlyKnows (cell_of S (round - 1) (place_of pen.old)) (cells_of pen.old) (cells_of pen.new) }
         ensures misses { SameMisses (cells_of pen.old) (cells_of pen.new) }
@@ -72,7 +75,9 @@ impl<T: Drop, const S: usize> Board<T, S> {
         ensures pen { IsPen self.now pen.new }
         ensures place { place_of pen.new ≡ place_of pen.old }
         ensures told { PassTells S (round - 1) (place_of pen.old) result.word (events pen.old) (events pen.new) }
-        ensures closer { (c : ℕ) → In (event (round - 1) (Closing c)) (events pen.new) → In (event (round - 1) (Closing c)) (events pen.old) ⊎ (mask_of pen.new round ≡ Some (c % 2 ^ 30)) }
+        ensures closer { (closing : ℕ) → In (event (round - 1) (Closing closing)) (events pen.new)
+            → In (event (round - 1) (Closing closing)) (events pen.old)
+            ⊎ (mask_of pen.new round ≡ Some (closing % 2 ^ 30)) }
         ensures cells { cells_of pen.new ≡ cells_of pen.old }
     {
         let word = pen.log.pass(&self.words, round as usize - 1);
@@ -89,10 +94,14 @@ impl<T: Drop, const S: usize> Board<T, S> {
         ensures told { LookTells (round - 1) result (events pen.old) (events pen.new) }
         ensures again { IfSome (mask_of pen.old round) (λ m. result ≡ Look.Frozen m) }
         ensures own_abort { In (event control_round Aborting) (events pen.old) → ¬ (result ≡ Look.NotYet) }
-        ensures seen_abort { (c : ℕ) → In (event control_round (SeeingControl c)) (events pen.old) → bit_at c 0 ≡ 1 → ¬ (result ≡ Look.NotYet) }
-        ensures frozen_loads { frozen_loads (round - 1) (events pen.new) ≡ frozen_loads (round - 1) (events pen.old) + 1 }
-        ensures control_loads { result ≡ Look.NotYet → control_loads (events pen.new) ≡ control_loads (events pen.old) + 1 }
-        ensures abort_loads { result ≡ Look.Aborted → control_loads (events pen.new) ≡ control_loads (events pen.old) + 1 }
+        ensures seen_abort { (control : ℕ) → In (event control_round (SeeingControl control)) (events pen.old)
+            → bit_at control 0 ≡ 1 → ¬ (result ≡ Look.NotYet) }
+        ensures frozen_loads { frozen_loads (round - 1) (events pen.new)
+            ≡ frozen_loads (round - 1) (events pen.old) + 1 }
+        ensures control_loads { result ≡ Look.NotYet
+            → control_loads (events pen.new) ≡ control_loads (events pen.old) + 1 }
+        ensures abort_loads { result ≡ Look.Aborted
+            → control_loads (events pen.new) ≡ control_loads (events pen.old) + 1 }
     {
         let found = pen.log.look(&self.words, round as usize - 1);
         if let Some(mask) = mask_shown(found) {
@@ -120,7 +129,8 @@ impl<T: Drop, const S: usize> Board<T, S> {
         ensures refusals { SameRefusals (cells_of pen.old) (cells_of pen.new) }
         ensures misses { misses_of pen.old round seat ≤ misses_of pen.new round seat }
         ensures other_misses { OnlyMissed (cell_of S (round - 1) (seat - 1)) (cells_of pen.old) (cells_of pen.new) }
-        ensures told { IfSome (mask_of pen.old round) (λ m. ReadTells (bit_at m (seat - 1)) (cell_of S (round - 1) (seat - 1)) (cells_of pen.old) (cells_of pen.new) result) }
+        ensures told { IfSome (mask_of pen.old round) (λ m. ReadTells (bit_at m (seat - 1))
+            (cell_of S (round - 1) (seat - 1)) (cells_of pen.old) (cells_of pen.new) result) }
     {
         let row = round as usize - 1;
         let place = seat as usize - 1;

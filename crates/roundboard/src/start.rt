@@ -67,7 +67,8 @@ fn pen_of<T: Drop, const S: usize>(
     place: usize,
     seat: Seat,
 ) -> Result<Pen<T, S>, AllocError>
-    requires seat { (seat.table_id ≡ board.now.words.table.shared.table_id) × (seat.me ≡ (view 0 ((place + 1) ∷ []) [], [])) }
+    requires seat { (seat.table_id ≡ board.now.words.table.shared.table_id)
+        × (seat.me ≡ (view 0 ((place + 1) ∷ []) [], [])) }
     requires place { place < S }
     ensures { IfOk result (IsFresh board.now place) }
 {
@@ -93,7 +94,8 @@ fn pens_of<T: Drop, const S: usize>(
     requires head { (head.table_id ≡ board.now.words.table.shared.table_id) × (head.me ≡ (opened, [])) }
     ensures count { IfOk result (λ v. length v.0.items ≡ S) }
     ensures pens { IfOk result (λ v. (k : ℕ) (p : _) → slice_get v.0.items k ≡ Some p → IsFresh board.now k p) }
-    ensures head { IfOk result (λ v. (v.1.table_id ≡ board.now.words.table.shared.table_id) × (v.1.me ≡ (view (S + 1) (0 ∷ []) [], []))) }
+    ensures head { IfOk result (λ v. (v.1.table_id ≡ board.now.words.table.shared.table_id)
+        × (v.1.me ≡ (view (S + 1) (0 ∷ []) [], []))) }
 {
     let mut head = head;
     let mut pens = Vec::new(alloc);
@@ -110,7 +112,8 @@ fn warden_of<T: Drop, const S: usize>(
     board: &Board<T, S>,
     head: Seat,
 ) -> Result<Warden<S>, AllocError>
-    requires head { (head.table_id ≡ board.now.words.table.shared.table_id) × (head.me ≡ (view (S + 1) (0 ∷ []) [], [])) }
+    requires head { (head.table_id ≡ board.now.words.table.shared.table_id)
+        × (head.me ≡ (view (S + 1) (0 ∷ []) [], [])) }
     ensures { IfOk result (IsFreshWarden board.now) }
 {
     let mut head = head;

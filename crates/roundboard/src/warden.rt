@@ -64,9 +64,13 @@ impl<T: Drop, const S: usize> Board<T, S> {
         requires seats { seats < 2 ^ S }
         ensures warden { IsWarden self.now warden.new }
         ensures told { CutTells S (round - 1) seats result.word (watched warden.old) (watched warden.new) }
-        ensures sheet { sheet_of (watched warden.new) (round - 1) ≡ added seats (sheet_of (watched warden.old) (round - 1)) }
-        ensures others { (q : ℕ) → ¬ (q ≡ round - 1) → sheet_of (watched warden.new) q ≡ sheet_of (watched warden.old) q }
-        ensures closer { (c : ℕ) → In (event (round - 1) (Closing c)) (watched warden.new) → In (event (round - 1) (Closing c)) (watched warden.old) ⊎ (mask_watched warden.new round ≡ Some (c % 2 ^ 30)) }
+        ensures sheet { sheet_of (watched warden.new) (round - 1)
+            ≡ added seats (sheet_of (watched warden.old) (round - 1)) }
+        ensures others { (other : ℕ) → ¬ (other ≡ round - 1)
+            → sheet_of (watched warden.new) other ≡ sheet_of (watched warden.old) other }
+        ensures closer { (closing : ℕ) → In (event (round - 1) (Closing closing)) (watched warden.new)
+            → In (event (round - 1) (Closing closing)) (watched warden.old)
+            ⊎ (mask_watched warden.new round ≡ Some (closing % 2 ^ 30)) }
     {
         let row = round as usize - 1;
         let word = warden.log.cut(&self.words, row, seats as u64);
@@ -80,12 +84,16 @@ impl<T: Drop, const S: usize> Board<T, S> {
         requires round { (1 ≤ round) × (round ≤ rounds_of self.now) }
         ensures warden { IsWarden self.now warden.new }
         ensures told { LookTells (round - 1) result (watched warden.old) (watched warden.new) }
-        ensures sheets { (q : ℕ) → sheet_of (watched warden.new) q ≡ sheet_of (watched warden.old) q }
+        ensures sheets { (any : ℕ) → sheet_of (watched warden.new) any ≡ sheet_of (watched warden.old) any }
         ensures again { IfSome (mask_watched warden.old round) (λ m. result ≡ Look.Frozen m) }
-        ensures seen_abort { (c : ℕ) → In (event control_round (SeeingControl c)) (watched warden.old) → bit_at c 0 ≡ 1 → ¬ (result ≡ Look.NotYet) }
-        ensures frozen_loads { frozen_loads (round - 1) (watched warden.new) ≡ frozen_loads (round - 1) (watched warden.old) + 1 }
-        ensures control_loads { result ≡ Look.NotYet → control_loads (watched warden.new) ≡ control_loads (watched warden.old) + 1 }
-        ensures abort_loads { result ≡ Look.Aborted → control_loads (watched warden.new) ≡ control_loads (watched warden.old) + 1 }
+        ensures seen_abort { (control : ℕ) → In (event control_round (SeeingControl control)) (watched warden.old)
+            → bit_at control 0 ≡ 1 → ¬ (result ≡ Look.NotYet) }
+        ensures frozen_loads { frozen_loads (round - 1) (watched warden.new)
+            ≡ frozen_loads (round - 1) (watched warden.old) + 1 }
+        ensures control_loads { result ≡ Look.NotYet
+            → control_loads (watched warden.new) ≡ control_loads (watched warden.old) + 1 }
+        ensures abort_loads { result ≡ Look.Aborted
+            → control_loads (watched warden.new) ≡ control_loads (watched warden.old) + 1 }
     {
         let found = warden.log.look(&self.words, round as usize - 1);
         if let Some(mask) = mask_shown(found) {

@@ -25,7 +25,7 @@ const PLACES: u64 = (1 << 30) - 1;
 const FIRST_PASSED: u64 = 1 << 30;
 
 // The longest sleep between two looks of a wait, in milliseconds.
-const NAP: u64 = 1;
+const NAP: u64 = 10;
 
 #[derive(Drop)]
 pub(crate) struct Words {
@@ -107,7 +107,8 @@ impl Words {
     pub(crate) fn new(alloc: Global, shape: Shape) -> Result<(Words, Seat), AllocError>
         requires seats { (2 ≤ shape.seats) × (shape.seats ≤ 30) }
         requires rounds { (1 ≤ shape.rounds) × (shape.rounds ≤ 8) }
-        ensures { IfOk result (λ t. (t.0.shape ≡ shape) × (t.1.table_id ≡ t.0.table.shared.table_id) × (t.1.me ≡ (opened, []))) }
+        ensures { IfOk result (λ t.
+            (t.0.shape ≡ shape) × (t.1.table_id ≡ t.0.table.shared.table_id) × (t.1.me ≡ (opened, []))) }
     {
         let words = Vec::from_elem(alloc, 0u64, 2 * shape.rounds as usize + 1)?;
         let (table, seat) = Table::of_words(alloc, &words, &shape)?;
@@ -142,7 +143,8 @@ impl Words {
 
     // Sets the passed bits of a mask of seats, for the warden. Answers the word that was found.
     pub(crate) fn cut(&self, seat: &mut Seat, round: u64, seats: u64) -> u64
-        requires seat { (seat.old.table_id ≡ self.now.table.shared.table_id) × In (self.now.shape.seats + 1) seat.old.me.0.numbers }
+        requires seat { (seat.old.table_id ≡ self.now.table.shared.table_id)
+            × In (self.now.shape.seats + 1) seat.old.me.0.numbers }
         requires round { round < self.now.shape.rounds }
         requires seats { seats < 2 ^ self.now.shape.seats }
         requires low { seats < 2 ^ 30 }
@@ -160,8 +162,10 @@ impl Words {
         requires round { round < self.now.shape.rounds }
         requires arrived { Showed self.now.shape.seats (event round) seat.old.me.0 }
         ensures same { (seat.new.table_id ≡ seat.old.table_id) × (seat.new.id ≡ seat.old.id) }
-        ensures first { bit_at result 63 ≡ 0 → seat.new.me ≡ (with_event round (Closing result) seat.old.me.0, seat.old.me.1) }
-        ensures later { bit_at result 63 ≡ 1 → seat.new.me ≡ (with_event round (Losing result) seat.old.me.0, seat.old.me.1) }
+        ensures first { bit_at result 63 ≡ 0
+            → seat.new.me ≡ (with_event round (Closing result) seat.old.me.0, seat.old.me.1) }
+        ensures later { bit_at result 63 ≡ 1
+            → seat.new.me ≡ (with_event round (Losing result) seat.old.me.0, seat.old.me.1) }
     {
         self.table
             .shared
@@ -189,7 +193,8 @@ impl Words {
         requires round { round < self.now.shape.rounds }
         ensures same { (seat.new.table_id ≡ seat.old.table_id) × (seat.new.id ≡ seat.old.id) }
         ensures told { seat.new.me ≡ (with_event round (Looking result) seat.old.me.0, seat.old.me.1) }
-        ensures again { (before : _) → In (event round (Looking before)) seat.old.me.0.events → (before ≡ 0) ⊎ (before ≡ result) }
+        ensures again { (before : _) → In (event round (Looking before)) seat.old.me.0.events
+            → (before ≡ 0) ⊎ (before ≡ result) }
         ensures own { (c : _) → In (event round (Publishing c)) seat.old.me.0.events → result ≡ frozen_word c }
     {
         self.table.shared.load::<Look>(seat, 2 * round as usize + 2)
@@ -210,7 +215,8 @@ impl Words {
         ensures same { (seat.new.table_id ≡ seat.old.table_id) × (seat.new.id ≡ seat.old.id) }
         ensures told { seat.new.me ≡ (with_event control_round (SeeingControl result) seat.old.me.0, seat.old.me.1) }
         ensures own { In (event control_round Aborting) seat.old.me.0.events → bit_at result 0 ≡ 1 }
-        ensures again { (before : _) → In (event control_round (SeeingControl before)) seat.old.me.0.events → bit_at before 0 ≤ bit_at result 0 }
+        ensures again { (before : _) → In (event control_round (SeeingControl before)) seat.old.me.0.events
+            → bit_at before 0 ≤ bit_at result 0 }
     {
         self.table.shared.load::<Control>(seat, 0)
     }
@@ -239,7 +245,8 @@ impl Words {
 
     // The seat takes up what the other did.
     pub(crate) fn gather(&self, seat: &mut Seat, other: Seat)
-        requires seat { (seat.old.table_id ≡ self.now.table.shared.table_id) × (other.table_id ≡ self.now.table.shared.table_id) × (other.me.1 ≡ []) }
+        requires seat { (seat.old.table_id ≡ self.now.table.shared.table_id)
+            × (other.table_id ≡ self.now.table.shared.table_id) × (other.me.1 ≡ []) }
         ensures same { (seat.new.table_id ≡ seat.old.table_id) × (seat.new.id ≡ seat.old.id) }
         ensures both { seat.new.me ≡ (both_of seat.old.me.0 other.me.0, seat.old.me.1) }
     {

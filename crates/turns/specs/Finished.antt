@@ -13,9 +13,10 @@ use Rattle.turns.specs.Turns.{Turn, tabulate}
 use Rattle.turns.specs.Account.{Account, Closed}
 
 module _ {M : Type 0} where
-  -- Each of n members has an account of all rounds, from its mind before to its mind after; the closed board settles their
-  -- logs and notes, and what each received of another is a prefix of what that one sent to it
-  pub record Finished (w : Ways M) (s : Shape) (n rounds : ℕ) (mask cut : ℕ → ℕ) (held : ℕ → Option Post) (before after : List M) : Type 0 where
+  -- Each of so many members has an account of all rounds, from its mind before to its mind after; the closed board
+  -- settles their logs and notes, and what each received of another is a prefix of what that one sent to it
+  pub record Finished (ways : Ways M) (shape : Shape) (count rounds : ℕ) (mask cut : ℕ → ℕ) (held : ℕ → Option Post)
+      (before after : List M) : Type 0 where
     pub events : ℕ → List Event
     pub known : ℕ → ℕ → Option Post
     pub sent : ℕ → ℕ → List Ring
@@ -23,35 +24,46 @@ module _ {M : Type 0} where
     pub turns : ℕ → List Turn
     -- any mind, for look-ups of seats that aren't there
     pub other : M
-    pub sized : seats s ≡ n
-    pub all_before : length before ≡ n
-    pub all_after : length after ≡ n
-    pub closed : Closed n rounds mask cut held events known
-    pub accounts : (k : ℕ) → 1 ≤ k → k ≤ n → Account w s n k (get_or before (k - 1) other) (get_or after (k - 1) other) (events k) (known k) (sent k) (got k) (turns k)
-    pub long : (k : ℕ) → 1 ≤ k → k ≤ n → length (turns k) ≡ rounds
-    pub prefixes : (a k : ℕ) → 1 ≤ a → a ≤ n → 1 ≤ k → k ≤ n → a ≢ k → IsPrefix (got a (k - 1)) (sent k (a - 1))
+    pub sized : seats shape ≡ count
+    pub all_before : length before ≡ count
+    pub all_after : length after ≡ count
+    pub closed : Closed count rounds mask cut held events known
+    pub accounts : (seat : ℕ) → 1 ≤ seat → seat ≤ count →
+        Account ways shape count seat (get_or before (seat - 1) other) (get_or after (seat - 1) other) (events seat)
+        (known seat) (sent seat) (got seat) (turns seat)
+    pub long : (seat : ℕ) → 1 ≤ seat → seat ≤ count → length (turns seat) ≡ rounds
+    pub prefixes : (other_seat seat : ℕ) → 1 ≤ other_seat → other_seat ≤ count → 1 ≤ seat → seat ≤ count →
+        other_seat ≢ seat → IsPrefix (got other_seat (seat - 1)) (sent seat (other_seat - 1))
 
   -- the minds after are the synchronous run of those before, under the board's masks
   abbrev pub EndsInSync : Ways M → Type 0
-  EndsInSync w =
-      (s : Shape) (n rounds : ℕ) (mask cut : ℕ → ℕ) (held : ℕ → Option Post) (before after : List M) → Finished w s n rounds mask cut held before after →
-      after ≡ sync w s 1 (tabulate 0 rounds mask) before
+  EndsInSync ways =
+      (shape : Shape) (count rounds : ℕ) (mask cut : ℕ → ℕ) (held : ℕ → Option Post) (before after : List M) →
+      Finished ways shape count rounds mask cut held before after →
+      after ≡ sync ways shape 1 (tabulate 0 rounds mask) before
 
   -- the board's masks are ones that the words allow, where those were cut whom the warden cut
   abbrev pub HasAllowedMasks : Ways M → Type 0
-  HasAllowedMasks w =
-      (s : Shape) (n rounds : ℕ) (mask cut : ℕ → ℕ) (held : ℕ → Option Post) (before after : List M) → Finished w s n rounds mask cut held before after →
-      AllAllowed w s 1 (all_seats s) cut (tabulate 0 rounds mask) before
+  HasAllowedMasks ways =
+      (shape : Shape) (count rounds : ℕ) (mask cut : ℕ → ℕ) (held : ℕ → Option Post) (before after : List M) →
+      Finished ways shape count rounds mask cut held before after →
+      AllAllowed ways shape 1 (all_seats shape) cut (tabulate 0 rounds mask) before
 
   -- the board's posts are the words' posts
   abbrev pub HasWordsPosts : Ways M → Type 0
-  HasWordsPosts w =
-      (s : Shape) (n rounds : ℕ) (mask cut : ℕ → ℕ) (held : ℕ → Option Post) (before after : List M) → Finished w s n rounds mask cut held before after →
-      (r k : ℕ) → r < rounds → 1 ≤ k → k ≤ n → has (mask r) k ≡ true →
-      held (cell_of n r (k - 1)) ≡ Some (post_in (get_or (words_of w (r + 1) (sync w s 1 (take r (tabulate 0 rounds mask)) before)) (k - 1) Pass))
+  HasWordsPosts ways =
+      (shape : Shape) (count rounds : ℕ) (mask cut : ℕ → ℕ) (held : ℕ → Option Post) (before after : List M) →
+      Finished ways shape count rounds mask cut held before after →
+      (round seat : ℕ) → round < rounds → 1 ≤ seat → seat ≤ count → has (mask round) seat ≡ true →
+      held (cell_of count round (seat - 1))
+      ≡ Some (post_in
+      (get_or (words_of ways (round + 1) (sync ways shape 1 (take round (tabulate 0 rounds mask)) before))
+      (seat - 1) Pass))
 
   -- masks that words allow are allowed where more seats are cut too
   abbrev pub MoreCutsAllowMore : Ways M → Type 0
-  MoreCutsAllowMore w =
-      (s : Shape) (cut more : ℕ → ℕ) → ((r : ℕ) → 1 ≤ r → IsPart (cut r) (more r)) → (masks : List ℕ) (minds : List M) →
-      AllAllowed w s 1 (all_seats s) cut masks minds → AllAllowed w s 1 (all_seats s) more masks minds
+  MoreCutsAllowMore ways =
+      (shape : Shape) (cut more : ℕ → ℕ) → ((round : ℕ) → 1 ≤ round → IsPart (cut round) (more round)) →
+      (masks : List ℕ) (minds : List M) →
+      AllAllowed ways shape 1 (all_seats shape) cut masks minds →
+      AllAllowed ways shape 1 (all_seats shape) more masks minds

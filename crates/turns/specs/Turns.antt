@@ -18,14 +18,15 @@ pub record Turn : Type 0 where
   pub posts : List Post
   pub rings : List Ring
 
--- what the member on the seat me tells its mind of a turn: each message as read
+-- what the member on the seat `me` tells its mind of a turn: each message as read
 abbrev pub heard_of : Shape → ℕ → ℕ → Turn → Heard
-heard_of s round me t = record { posts = posts_read s round 1 t.posts; rings = rings_read s round me 1 t.rings }
+heard_of shape round me turn =
+    record { posts = posts_read shape round 1 turn.posts; rings = rings_read shape round me 1 turn.rings }
 
 -- a seat that was missing from a mask is out
 abbrev pub out_of : ℕ → List Turn → Bool
 out_of me [] = false
-out_of me (t ∷ older) = out_of me older || not (has t.mask me)
+out_of me (turn ∷ older) = out_of me older || not (has turn.mask me)
 
 -- the word that counts: who is out passes, whatever its mind says
 abbrev pub counted : Bool → Say → Say
@@ -33,128 +34,152 @@ counted out word = cond out Pass word
 
 -- what a word sends to a seat: one item, or nothing where it passes
 abbrev pub sent_in : ℕ → Say → List Ring
-sent_in to (Speak p rs) = get_or rs (to - 1) Nothing ∷ []
+sent_in to (Speak post rings) = get_or rings (to - 1) Nothing ∷ []
 sent_in to Pass = []
-sent_in to (PassThenSpeak p rs) = get_or rs (to - 1) Nothing ∷ []
+sent_in to (PassThenSpeak post rings) = get_or rings (to - 1) Nothing ∷ []
 
 -- what was received from a seat in a turn: one item where the mask has the seat
 abbrev pub got_in : ℕ → Turn → List Ring
-got_in from t = cond (has t.mask from) (get_or t.rings (from - 1) Nothing ∷ []) []
+got_in from turn = cond (has turn.mask from) (get_or turn.rings (from - 1) Nothing ∷ []) []
 
 -- all items that were received from a seat
 abbrev pub got_items : ℕ → List Turn → List Ring
 got_items from [] = []
-got_items from (t ∷ older) = got_items from older ++ got_in from t
+got_items from (turn ∷ older) = got_items from older ++ got_in from turn
 
 module _ {M : Type 0} where
   -- the mind after the turns
   abbrev pub mind_after : Ways M → Shape → ℕ → M → List Turn → M
-  mind_after w s me first [] = first
-  mind_after w s me first (t ∷ older) =
-      w.after_hear (w.after_say (mind_after w s me first older) (length older + 1)) (length older + 1) (heard_of s (length older + 1) me t)
+  mind_after ways shape me first [] = first
+  mind_after ways shape me first (turn ∷ older) =
+      ways.after_hear (ways.after_say (mind_after ways shape me first older) (length older + 1)) (length older + 1)
+      (heard_of shape (length older + 1) me turn)
 
   -- the word that counts in the round after the turns
   abbrev pub counted_after : Ways M → Shape → ℕ → M → List Turn → Say
-  counted_after w s me first older = counted (out_of me older) (w.word (mind_after w s me first older) (length older + 1))
+  counted_after ways shape me first older =
+      counted (out_of me older) (ways.word (mind_after ways shape me first older) (length older + 1))
 
   -- all items that were sent to a seat
   abbrev pub sent_items : Ways M → Shape → ℕ → ℕ → M → List Turn → List Ring
-  sent_items w s to me first [] = []
-  sent_items w s to me first (t ∷ older) = sent_items w s to me first older ++ sent_in to (counted_after w s me first older)
+  sent_items ways shape to me first [] = []
+  sent_items ways shape to me first (turn ∷ older) =
+      sent_items ways shape to me first older ++ sent_in to (counted_after ways shape me first older)
 
 -- ---- what must be known of all members together
 -- who passes isn't present
 abbrev pub AbsentIfPass : Bool → Say → Type 0
-AbsentIfPass present (Speak p rs) = Unit {0}
+AbsentIfPass present (Speak post rings) = Unit {0}
 AbsentIfPass present Pass = present ≡ false
-AbsentIfPass present (PassThenSpeak p rs) = Unit {0}
+AbsentIfPass present (PassThenSpeak post rings) = Unit {0}
 
 -- who speaks and was not cut is present
 abbrev pub PresentIfSpeak : Bool → Bool → Say → Type 0
-PresentIfSpeak cut present (Speak p rs) = cut ≡ false → present ≡ true
+PresentIfSpeak cut present (Speak post rings) = cut ≡ false → present ≡ true
 PresentIfSpeak cut present Pass = Unit {0}
-PresentIfSpeak cut present (PassThenSpeak p rs) = Unit {0}
+PresentIfSpeak cut present (PassThenSpeak post rings) = Unit {0}
 
--- the turn has a message of each of n seats: nothing where the mask lacks the seat, and nothing from the own seat
-pub record IsComplete (n me : ℕ) (t : Turn) : Type 0 where
-  pub posts_all : length t.posts ≡ n
-  pub rings_all : length t.rings ≡ n
-  pub no_post : (k : ℕ) → 1 ≤ k → k ≤ n → has t.mask k ≡ false → get_or t.posts (k - 1) Quiet ≡ Quiet
-  pub no_ring : (k : ℕ) → 1 ≤ k → k ≤ n → has t.mask k ≡ false → get_or t.rings (k - 1) Nothing ≡ Nothing
-  pub own_ring : get_or t.rings (me - 1) Nothing ≡ Nothing
+-- the turn has a message of each of so many seats: nothing where the mask lacks the seat, and nothing from the own seat
+pub record IsComplete (count me : ℕ) (turn : Turn) : Type 0 where
+  pub posts_all : length turn.posts ≡ count
+  pub rings_all : length turn.rings ≡ count
+  pub no_post : (seat : ℕ) → 1 ≤ seat → seat ≤ count → has turn.mask seat ≡ false →
+      get_or turn.posts (seat - 1) Quiet ≡ Quiet
+  pub no_ring : (seat : ℕ) → 1 ≤ seat → seat ≤ count → has turn.mask seat ≡ false →
+      get_or turn.rings (seat - 1) Nothing ≡ Nothing
+  pub own_ring : get_or turn.rings (me - 1) Nothing ≡ Nothing
 
 abbrev pub AllComplete : ℕ → ℕ → List Turn → Type 0
-AllComplete n me [] = Unit {0}
-AllComplete n me (t ∷ older) = IsComplete n me t × AllComplete n me older
+AllComplete count me [] = Unit {0}
+AllComplete count me (turn ∷ older) = IsComplete count me turn × AllComplete count me older
 
 -- the masks of the turns
 abbrev pub masks_of : List Turn → List ℕ
 masks_of [] = []
-masks_of (t ∷ older) = t.mask ∷ masks_of older
+masks_of (turn ∷ older) = turn.mask ∷ masks_of older
 
 module _ {M : Type 0} where
   -- in the rounds in which the seat passes it isn't in the mask
   abbrev pub AbsentWherePassed : Ways M → Shape → ℕ → M → List Turn → Type 0
-  AbsentWherePassed w s me first [] = Unit {0}
-  AbsentWherePassed w s me first (t ∷ older) = AbsentIfPass (has t.mask me) (counted_after w s me first older) × AbsentWherePassed w s me first older
+  AbsentWherePassed ways shape me first [] = Unit {0}
+  AbsentWherePassed ways shape me first (turn ∷ older) =
+      AbsentIfPass (has turn.mask me) (counted_after ways shape me first older)
+      × AbsentWherePassed ways shape me first older
 
-  -- and in those in which it speaks and was not cut it is; `cut r` is who was cut in round r, from 1
+  -- and in those in which it speaks and was not cut it is; `cut` is who was cut in each round, from 1
   abbrev pub PresentWhereSpoke : (ℕ → ℕ) → Ways M → Shape → ℕ → M → List Turn → Type 0
-  PresentWhereSpoke cut w s me first [] = Unit {0}
-  PresentWhereSpoke cut w s me first (t ∷ older) = PresentIfSpeak (has (cut (length older + 1)) me) (has t.mask me) (counted_after w s me first older) × PresentWhereSpoke cut w s me first older
+  PresentWhereSpoke cut ways shape me first [] = Unit {0}
+  PresentWhereSpoke cut ways shape me first (turn ∷ older) =
+      PresentIfSpeak (has (cut (length older + 1)) me) (has turn.mask me) (counted_after ways shape me first older)
+      × PresentWhereSpoke cut ways shape me first older
 
   -- the posts of the seat `from` that one member took in are those that its word had
   abbrev pub Values : Ways M → Shape → ℕ → M → List Turn → List Turn → Type 0
-  Values w s from first [] theirs = Unit {0}
-  Values w s from first (t ∷ older) [] = Unit {0}
-  Values w s from first (t ∷ older) (u ∷ theirs) =
-      (has t.mask from ≡ true → get_or t.posts (from - 1) Quiet ≡ post_in (counted_after w s from first theirs)) × Values w s from first older theirs
+  Values ways shape from first [] theirs = Unit {0}
+  Values ways shape from first (turn ∷ older) [] = Unit {0}
+  Values ways shape from first (turn ∷ older) (said ∷ theirs) =
+      (has turn.mask from ≡ true →
+      get_or turn.posts (from - 1) Quiet ≡ post_in (counted_after ways shape from first theirs))
+      × Values ways shape from first older theirs
 
-  -- All members of a phase went by the same masks, took in what the others posted, and received from each the first items that it sent
-  pub record MembersAgree (w : Ways M) (s : Shape) (n : ℕ) (first : ℕ → M) (masks : List ℕ) (turns : ℕ → List Turn) : Type 0 where
-    pub same_masks : (k : ℕ) → 1 ≤ k → k ≤ n → masks_of (turns k) ≡ masks
-    pub complete : (k : ℕ) → 1 ≤ k → k ≤ n → AllComplete n k (turns k)
-    pub absent : (k : ℕ) → 1 ≤ k → k ≤ n → AbsentWherePassed w s k (first k) (turns k)
-    pub values : (a k : ℕ) → 1 ≤ a → a ≤ n → 1 ≤ k → k ≤ n → Values w s k (first k) (turns a) (turns k)
-    pub rings : (a k : ℕ) → 1 ≤ a → a ≤ n → 1 ≤ k → k ≤ n → a ≢ k → IsPrefix (got_items k (turns a)) (sent_items w s a k (first k) (turns k))
+  -- All members of a phase went by the same masks, took in what the others posted, and received from each the first
+  -- items that it sent
+  pub record MembersAgree (ways : Ways M) (shape : Shape) (count : ℕ) (first : ℕ → M) (masks : List ℕ)
+      (turns : ℕ → List Turn) : Type 0 where
+    pub same_masks : (seat : ℕ) → 1 ≤ seat → seat ≤ count → masks_of (turns seat) ≡ masks
+    pub complete : (seat : ℕ) → 1 ≤ seat → seat ≤ count → AllComplete count seat (turns seat)
+    pub absent : (seat : ℕ) → 1 ≤ seat → seat ≤ count → AbsentWherePassed ways shape seat (first seat) (turns seat)
+    pub values : (other seat : ℕ) → 1 ≤ other → other ≤ count → 1 ≤ seat → seat ≤ count →
+        Values ways shape seat (first seat) (turns other) (turns seat)
+    pub rings : (other seat : ℕ) → 1 ≤ other → other ≤ count → 1 ≤ seat → seat ≤ count → other ≢ seat →
+        IsPrefix (got_items seat (turns other)) (sent_items ways shape other seat (first seat) (turns seat))
 
 -- ---- the synchronous run, the newest mask first
--- the values of f at so many numbers, from `seat` on
+-- the values at so many numbers, from `seat` on
 abbrev pub tabulate : {A : Type 0} → ℕ → ℕ → (ℕ → A) → List A
-tabulate seat zero f = []
-tabulate seat (suc n) f = f seat ∷ tabulate (seat + 1) n f
+tabulate seat zero value = []
+tabulate seat (suc count) value = value seat ∷ tabulate (seat + 1) count value
 
 -- each is a mask of the setting
 abbrev pub AllMasks : Shape → List ℕ → Type 0
-AllMasks s [] = Unit {0}
-AllMasks s (m ∷ older) = IsMask s m × AllMasks s older
+AllMasks shape [] = Unit {0}
+AllMasks shape (mask ∷ older) = IsMask shape mask × AllMasks shape older
 
 -- the newest mask, or that of everyone where there is none
 abbrev pub mask_before : ℕ → List ℕ → ℕ
 mask_before everyone [] = everyone
-mask_before everyone (m ∷ older) = m
+mask_before everyone (mask ∷ older) = mask
 
 module _ {M : Type 0} where
   -- the synchronous run
   abbrev pub sync_back : Ways M → Shape → List ℕ → List M → List M
-  sync_back w s [] minds = minds
-  sync_back w s (m ∷ older) minds = after_round w s (length older + 1) m (sync_back w s older minds)
+  sync_back ways shape [] minds = minds
+  sync_back ways shape (mask ∷ older) minds =
+      after_round ways shape (length older + 1) mask (sync_back ways shape older minds)
 
   -- each mask is one that the words allow
   abbrev pub AllowedBack : Ways M → Shape → ℕ → (ℕ → ℕ) → List ℕ → List M → Type 0
-  AllowedBack w s everyone cut [] minds = Unit {0}
-  AllowedBack w s everyone cut (m ∷ older) minds =
-      AllowedBack w s everyone cut older minds × IsMask s m × Allowed (mask_before everyone older) m (cut (length older + 1)) 1 (words_of w (length older + 1) (sync_back w s older minds))
+  AllowedBack ways shape everyone cut [] minds = Unit {0}
+  AllowedBack ways shape everyone cut (mask ∷ older) minds =
+      AllowedBack ways shape everyone cut older minds × IsMask shape mask
+      × Allowed (mask_before everyone older) mask (cut (length older + 1)) 1
+      (words_of ways (length older + 1) (sync_back ways shape older minds))
 
-  -- what the seats of each mask posted is what their words had; `held r k` is the value of the seat k in round r, both from 1
+  -- what the seats of each mask posted is what their words had; `held` is the value of a round and a seat,
+  -- both from 1
   abbrev pub PostsBack : Ways M → Shape → ℕ → (ℕ → ℕ → Option Post) → List ℕ → List M → Type 0
-  PostsBack w s n held [] minds = Unit {0}
-  PostsBack w s n held (m ∷ older) minds =
-      PostsBack w s n held older minds
-      × ((k : ℕ) → 1 ≤ k → k ≤ n → has m k ≡ true → held (length older + 1) k ≡ Some (post_in (get_or (words_of w (length older + 1) (sync_back w s older minds)) (k - 1) Pass)))
+  PostsBack ways shape count held [] minds = Unit {0}
+  PostsBack ways shape count held (mask ∷ older) minds =
+      PostsBack ways shape count held older minds
+      × ((seat : ℕ) → 1 ≤ seat → seat ≤ count → has mask seat ≡ true →
+      held (length older + 1) seat
+      ≡ Some (post_in
+      (get_or (words_of ways (length older + 1) (sync_back ways shape older minds)) (seat - 1) Pass)))
 
-  -- the seat k's posts of the rounds whose mask has it are what it said
+  -- the seat's posts of the rounds whose mask has it are what it said
   abbrev pub HeldBy : Ways M → Shape → (ℕ → M) → (ℕ → ℕ → Option Post) → ℕ → List Turn → Type 0
-  HeldBy w s first held k [] = Unit {0}
-  HeldBy w s first held k (u ∷ older) =
-      (has u.mask k ≡ true → held (length older + 1) k ≡ Some (post_in (counted_after w s k (first k) older))) × HeldBy w s first held k older
+  HeldBy ways shape first held seat [] = Unit {0}
+  HeldBy ways shape first held seat (turn ∷ older) =
+      (has turn.mask seat ≡ true →
+      held (length older + 1) seat ≡ Some (post_in (counted_after ways shape seat (first seat) older)))
+      × HeldBy ways shape first held seat older

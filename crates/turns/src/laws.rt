@@ -4,7 +4,9 @@ ghost use Rattle.turns.specs.Finished.{EndsInSync, HasAllowedMasks, HasWordsPost
 
 use talk::Mind;
 
-/// What members did that each kept an account of all rounds, and whose logs, notes and rings were settled, is the synchronous run under the closed board's masks: the minds are those of the run, the masks are ones that the words allow, and the posts are the words' posts. No order of the members' steps is named.
+/// What members did that each kept an account of all rounds, and whose logs, notes and rings were settled, is the
+/// synchronous run under the closed board's masks: the minds are those of the run, the masks are ones that the
+/// words allow, and the posts are the words' posts. No order of the members' steps is named.
 pub fn a_finished_phase_is_the_synchronous_run<M: Mind>()
     ensures minds { EndsInSync (ways M.word M.after_say M.after_hear) }
     ensures masks { HasAllowedMasks (ways M.word M.after_say M.after_hear) }

@@ -8,7 +8,7 @@ use Rattle.talk.specs.Shape.{Shape}
 use Rattle.plays.specs.Read.{listed_in}
 use Rattle.plays.specs.Seat.{heard_complaint}
 
--- what stands in the cell of instance i and receiver k
+-- what stands in the cell of an instance and a receiver
 abbrev pub cell_of : List (Option Crossing) → ℕ → ℕ → Option Crossing
 cell_of cells instance other = get_or cells (instance * 16 + other) None
 
@@ -27,7 +27,8 @@ settled_where true true mine theirs = told_same mine theirs
 settled_where true false mine theirs = true
 settled_where false hidden mine theirs = true
 
--- the same of receivers k and l in instance i, with a list of which receivers are hidden, by their index less 1
+-- the same of two receivers in an instance, with a list of which receivers are hidden, by their index less 1
 abbrev pub settled_here : Shape → List Post → List Bool → ℕ → ℕ → ℕ → Bool
 settled_here shape third hidden instance receiver other =
-    settled_where (get_or hidden (receiver - 1) false) (get_or hidden (other - 1) false) (heard_complaint shape third instance receiver other) (heard_complaint shape third instance other receiver)
+    settled_where (get_or hidden (receiver - 1) false) (get_or hidden (other - 1) false)
+    (heard_complaint shape third instance receiver other) (heard_complaint shape third instance other receiver)

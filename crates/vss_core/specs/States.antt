@@ -75,27 +75,27 @@ dealer_code =
     (λ p. record { shape = p.0; me = p.1.0; grids = p.1.1 })
     (λ _. refl)
 
--- me is one of the setting's dealers, or of its receivers
+-- `me` is one of the setting's dealers, or of its receivers
 abbrev pub IsDealer : Shape → ℕ → Type 0
 IsDealer shape me = (1 ≤ me) × (me ≤ shape.dealers)
 
 abbrev pub IsReceiver : Shape → ℕ → Type 0
 IsReceiver shape me = (1 ≤ me) × (me ≤ shape.receivers)
 
--- one grid for each of the five lanes, all of degree d
-pub record FiveGrids (d : ℕ) (grids : List (List (List Fp))) : Type 0 where
+-- one grid for each of the five lanes, all of one degree
+pub record FiveGrids (grid_degree : ℕ) (grids : List (List (List Fp))) : Type 0 where
   pub five : length grids ≡ 5
-  pub degree : All (IsGrid d) grids
+  pub degree : All (IsGrid grid_degree) grids
 
 -- the posts of a round: one entry for each seat, as read
-pub record RoundPosts (s : Shape) (round : ℕ) (posts : List Post) : Type 0 where
-  pub all : length posts ≡ seats s
-  pub read : PostsOk s round 1 posts
+pub record RoundPosts (shape : Shape) (round : ℕ) (posts : List Post) : Type 0 where
+  pub all : length posts ≡ seats shape
+  pub read : PostsOk shape round 1 posts
 
--- the ring messages of a round to receiver me: one entry for each seat, as read
-pub record RoundRings (s : Shape) (round me : ℕ) (rings : List Ring) : Type 0 where
-  pub all : length rings ≡ seats s
-  pub read : RingsOk s round (seat_of s me) 1 rings
+-- the ring messages of a round to the receiver `me`: one entry for each seat, as read
+pub record RoundRings (shape : Shape) (round me : ℕ) (rings : List Ring) : Type 0 where
+  pub all : length rings ≡ seats shape
+  pub read : RingsOk shape round (seat_of shape me) 1 rings
 
 -- the grids of a receiver's own dealer, none where it has none
 abbrev pub own_grids : Option (Bor DealerState) → List (List (List Fp))
@@ -104,25 +104,28 @@ own_grids (Some dealer) = dealer.now.grids
 
 -- a crossing is stored as its two values
 abbrev pub crossing_code : Coded Crossing
-crossing_code = code_by _ (coded× fp_code fp_code) (λ c. (c.row, c.column)) (λ p. record { row = p.0; column = p.1 }) (λ _. refl)
+crossing_code =
+    code_by _ (coded× fp_code fp_code) (λ c. (c.row, c.column)) (λ p. record { row = p.0; column = p.1 }) (λ _. refl)
 
--- a dealer's message of degree d has the coefficients of five rows and columns
+-- a dealer's message of a degree has the coefficients of five rows and columns
 abbrev pub DealtLong : ℕ → Ring → Type 0
 DealtLong degree Nothing = Unit {0}
-DealtLong degree (Dealt xs) = length xs ≡ 10 * (degree + 1)
-DealtLong degree (Cross xs) = Unit {0}
+DealtLong degree (Dealt values) = length values ≡ 10 * (degree + 1)
+DealtLong degree (Cross values) = Unit {0}
 
 -- a message of the second round has two elements for each instance
 abbrev pub CrossLong : ℕ → Ring → Type 0
 CrossLong count Nothing = Unit {0}
-CrossLong count (Dealt xs) = Unit {0}
-CrossLong count (Cross xs) = length xs ≡ 2 * count
+CrossLong count (Dealt values) = Unit {0}
+CrossLong count (Cross values) = length values ≡ 2 * count
 
--- the crossing pair that me heard of k in instance i, of which it holds the pair; its own for k = me
+-- the crossing pair that `me` heard of another receiver in an instance, of which it holds the pair; its own for `me`
 abbrev pub cross_of : Shape → ℕ → Pair → List Ring → ℕ → ℕ → Option Crossing
-cross_of shape me pair rings instance other = cond (eqb other me) (Some (at_point pair me)) (crossed_in instance (ring_at rings (seat_of shape other)))
+cross_of shape me pair rings instance other =
+    cond (eqb other me) (Some (at_point pair me)) (crossed_in instance (ring_at rings (seat_of shape other)))
 
--- the reveals of dealer me in a lane of which it has the grid, for the receivers 1 to n
+-- the reveals of the dealer `me` in a lane of which it has the grid, for the receivers 1 to `count`
 abbrev pub lane_items : Shape → ℕ → List (List Fp) → List Post → ℕ → ℕ → List Reveal
 lane_items shape me grid third lane count =
-    flat_map (λ j. reveal_item shape.degree lane j (reveal_of shape.receivers grid (heard_complaint shape third (instance_at me lane) j) j)) (points_up_to count)
+    flat_map (λ j. reveal_item shape.degree lane j
+    (reveal_of shape.receivers grid (heard_complaint shape third (instance_at me lane) j) j)) (points_up_to count)

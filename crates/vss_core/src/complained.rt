@@ -31,7 +31,8 @@ impl Model for Complained {
 
     ghost view = { λ d. record { shape = d.setting; me = d.me; pairs = d.pairs; third = d.third } };
 
-    ghost invariant = { λ d. IsReceiver d.setting d.me × ((length d.pairs ≡ instances d.setting) × (length d.third ≡ seats d.setting)) };
+    ghost invariant = { λ d. IsReceiver d.setting d.me
+        × ((length d.pairs ≡ instances d.setting) × (length d.third ≡ seats d.setting)) };
 }
 
 impl Complained {

@@ -68,18 +68,18 @@ impl<'a> ComplaintTables<'a> {
         Ok(ComplaintTables { posts, tables })
     }
 
-    // The complaint of instance i against k in a seat's post. Past the table it reads the post itself.
-    pub(crate) fn complaint(&self, seat: u32, i: u32, k: u32) -> Option<Crossing>
+    // The complaint of an instance against a receiver in a seat's post. Past the table it reads the post itself.
+    pub(crate) fn complaint(&self, seat: u32, instance: u32, against: u32) -> Option<Crossing>
         requires { (1 ≤ seat) × (seat ≤ length self.now) }
-        ensures { result ≡ listed_in i k (post_at self.now seat) }
+        ensures { result ≡ listed_in instance against (post_at self.now seat) }
     {
         let at = (seat - 1) as usize;
         let table = &self.tables[at];
-        let cell = cell_at(i, k);
-        if (k as usize) < COLUMNS && cell < table.cells.len() {
+        let cell = cell_at(instance, against);
+        if (against as usize) < COLUMNS && cell < table.cells.len() {
             return table.cells[cell];
         }
-        complaint_in(self.posts.at(at), i, k)
+        complaint_in(self.posts.at(at), instance, against)
     }
 }
 
@@ -139,10 +139,10 @@ fn cells_of(
 }
 
 // That many empty cells.
-fn no_cells(alloc: Global, n: usize) -> Result<Vec<Option<Crossing>>, OutOfMemory>
+fn no_cells(alloc: Global, count: usize) -> Result<Vec<Option<Crossing>>, OutOfMemory>
     ensures { IfOk result (λ t. (k : ℕ) → get_or t.items k None ≡ None) }
 {
-    Ok(vec![in alloc; None; n]?)
+    Ok(vec![in alloc; None; count]?)
 }
 
 // Puts a complaint into its cell, where there is one.

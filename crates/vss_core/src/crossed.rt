@@ -87,96 +87,98 @@ impl Crossed {
 // All complaints.
 pub(crate) fn complaints_of(
     alloc: Global,
-    s: &Setting,
+    setting: &Setting,
     me: u32,
     pairs: &PairList,
     rings: &RingList,
 ) -> Result<ComplaintList, OutOfMemory>
-    requires receiver { IsReceiver s.now me }
-    requires rings { RoundRings s.now 2 me rings.now }
-    requires pairs { length pairs.now ≡ instances s.now }
+    requires receiver { IsReceiver setting.now me }
+    requires rings { RoundRings setting.now 2 me rings.now }
+    requires pairs { length pairs.now ≡ instances setting.now }
     ensures { IfOk result
-        (λ l. l ≡ complaint_list (instances s.now) s.now.receivers (complains s.now me pairs.now rings.now)) }
+        (λ l. l ≡ complaint_list (instances setting.now) setting.now.receivers
+        (complains setting.now me pairs.now rings.now)) }
 {
     let mut list = ComplaintList::new(alloc);
-    for i in 0..s.instances() {
-        complain_all(s, me, pairs.at(i as usize), rings, i, &mut list)?;
+    for i in 0..setting.instances() {
+        complain_all(setting, me, pairs.at(i as usize), rings, i, &mut list)?;
     }
     Ok(list)
 }
 
 // The complaints of one instance, at the end of the list.
 fn complain_all(
-    s: &Setting,
+    setting: &Setting,
     me: u32,
     pair: &PolyPair,
     rings: &RingList,
-    i: u32,
+    instance: u32,
     list: &mut ComplaintList,
 ) -> Result<(), OutOfMemory>
-    requires receiver { IsReceiver s.now me }
-    requires rings { RoundRings s.now 2 me rings.now }
-    requires instance { i < instances s.now }
+    requires receiver { IsReceiver setting.now me }
+    requires rings { RoundRings setting.now 2 me rings.now }
+    requires instance { instance < instances setting.now }
     ensures { OnOk result
-        (list.new ≡ list.old ++ complaint_row i s.now.receivers
-        (λ k. complaint_of (at_point pair.now k) (cross_of s.now me pair.now rings.now i k))) }
+        (list.new ≡ list.old ++ complaint_row instance setting.now.receivers
+        (λ k. complaint_of (at_point pair.now k) (cross_of setting.now me pair.now rings.now instance k))) }
 {
-    for k in 1..s.receivers() + 1 {
-        complain(s, me, pair, rings, i, k, list)?;
+    for k in 1..setting.receivers() + 1 {
+        complain(setting, me, pair, rings, instance, k, list)?;
     }
     Ok(())
 }
 
-// The complaint of k, where there is one, at the end of the list.
+// The complaint of a receiver, where there is one, at the end of the list.
 fn complain(
-    s: &Setting,
+    setting: &Setting,
     me: u32,
     pair: &PolyPair,
     rings: &RingList,
-    i: u32,
-    k: u32,
+    instance: u32,
+    against: u32,
     list: &mut ComplaintList,
 ) -> Result<(), OutOfMemory>
-    requires receiver { IsReceiver s.now me }
-    requires rings { RoundRings s.now 2 me rings.now }
-    requires instance { i < instances s.now }
-    requires against { IsReceiver s.now k }
+    requires receiver { IsReceiver setting.now me }
+    requires rings { RoundRings setting.now 2 me rings.now }
+    requires instance { instance < instances setting.now }
+    requires against { IsReceiver setting.now against }
     ensures { OnOk result
-        (list.new ≡ list.old ++ complaint_item i k
-        (complaint_of (at_point pair.now k) (cross_of s.now me pair.now rings.now i k))) }
+        (list.new ≡ list.old ++ complaint_item instance against
+        (complaint_of (at_point pair.now against) (cross_of setting.now me pair.now rings.now instance against))) }
 {
-    let own = pair.at(k);
-    if let Some(theirs) = crossing_of(s, me, own, rings, i, k) {
+    let own = pair.at(against);
+    if let Some(theirs) = crossing_of(setting, me, own, rings, instance, against) {
         if theirs.row == own.column && theirs.column == own.row {
             return Ok(());
         }
     }
     list.push(Complaint {
-        instance: i,
-        against: k,
+        instance,
+        against,
         u: own.row,
         v: own.column,
     })
 }
 
-// The crossing pair that was heard of k; for k = me the own values, which are `mine`.
+// The crossing pair that was heard of another receiver; of `me` the own values, which are `mine`.
 fn crossing_of(
-    s: &Setting,
+    setting: &Setting,
     me: u32,
     mine: Crossing,
     rings: &RingList,
-    i: u32,
-    k: u32,
+    instance: u32,
+    other: u32,
 ) -> Option<Crossing>
-    requires receiver { IsReceiver s.now me }
-    requires rings { RoundRings s.now 2 me rings.now }
-    requires instance { i < instances s.now }
-    requires against { IsReceiver s.now k }
-    ensures { result ≡ cond (eqb k me) (Option.Some mine) (crossed_in i (ring_at rings.now (seat_of s.now k))) }
+    requires receiver { IsReceiver setting.now me }
+    requires rings { RoundRings setting.now 2 me rings.now }
+    requires instance { instance < instances setting.now }
+    requires against { IsReceiver setting.now other }
+    ensures { result ≡ cond (eqb other me) (Option.Some mine)
+        (crossed_in instance (ring_at rings.now (seat_of setting.now other))) }
 {
-    if k == me {
+    if other == me {
         return Some(mine);
     }
-    let ring = rings.at((s.seat_of(k) - 1) as usize);
-    crossing(ring, s.instances(), i)
+    let ring = rings.at((setting.seat_of(other) - 1) as usize);
+    crossing(ring, setting.instances(), instance)
 }

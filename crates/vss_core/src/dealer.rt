@@ -126,108 +126,128 @@ impl Dealer {
         Ok(())
     }
 
-    // The reveal of receiver j in a lane, where it is to be revealed, at the end of the list.
+    // The reveal of a receiver in a lane, where it is to be revealed, at the end of the list.
     fn reveal_one(
         &self,
         alloc: Global,
         posts: &ComplaintTables<'_>,
         lane: u32,
-        j: u32,
+        receiver: u32,
         list: &mut RevealList,
     ) -> Result<(), OutOfMemory>
         requires lane { lane < 5 }
-        requires receiver { IsReceiver self.now.shape j }
+        requires receiver { IsReceiver self.now.shape receiver }
         requires all { length posts.now ≡ seats self.now.shape }
         ensures { IfOk result
-            (λ _. list.new ≡ list.old ++ reveal_item self.now.shape.degree lane j
+            (λ _. list.new ≡ list.old ++ reveal_item self.now.shape.degree lane receiver
             (reveal_of self.now.shape.receivers (get_or self.now.grids lane [])
-            (heard_complaint self.now.shape posts.now (instance_at self.now.me lane) j) j)) }
+            (heard_complaint self.now.shape posts.now (instance_at self.now.me lane) receiver) receiver)) }
     {
         let dealers = self.setting.dealers();
         prove!(self.me <= dealers);
         let grid = self.grids.at(lane as usize);
         let dealer = self.me;
         let instance = Instance { dealer, lane }.number();
-        if tells_off(&self.setting, grid, posts, instance, j) {
-            return push_reveal(alloc, list, grid, self.setting.degree() as usize, lane, j);
+        if tells_off(&self.setting, grid, posts, instance, receiver) {
+            return push_reveal(
+                alloc,
+                list,
+                grid,
+                self.setting.degree() as usize,
+                lane,
+                receiver,
+            );
         }
         Ok(())
     }
 }
 
-// What goes to a receiver, of the degree d.
-fn dealt_to(alloc: Global, grids: &GridList, d: usize, receiver: u32) -> Result<FeList, OutOfMemory>
+// What goes to a receiver, of a degree.
+fn dealt_to(
+    alloc: Global,
+    grids: &GridList,
+    degree: usize,
+    receiver: u32,
+) -> Result<FeList, OutOfMemory>
     requires five { length grids.now ≡ 5 }
-    requires degree { d ≤ 4 }
-    ensures { IfOk result (λ l. l ≡ dealt_list d (λ k. pair_on (get_or grids.now k []) receiver)) }
+    requires degree { degree ≤ 4 }
+    ensures { IfOk result (λ l. l ≡ dealt_list degree (λ k. pair_on (get_or grids.now k []) receiver)) }
 {
     let mut list = FeList::new(alloc);
     for lane in 0..5 {
-        push_pair(alloc, &mut list, grids.at(lane), d, receiver)?;
+        push_pair(alloc, &mut list, grids.at(lane), degree, receiver)?;
     }
     Ok(list)
 }
 
-// The coefficients of a receiver's row and column of a grid of degree d, at the end of the list.
+// The coefficients of a receiver's row and column of a grid of a degree, at the end of the list.
 fn push_pair(
     alloc: Global,
     list: &mut FeList,
     grid: &Grid,
-    d: usize,
+    degree: usize,
     receiver: u32,
 ) -> Result<(), OutOfMemory>
-    requires { d ≤ 4 }
-    ensures { IfOk result (λ _. list.new ≡ list.old ++ pair_list d (pair_on grid.now receiver)) }
+    requires { degree ≤ 4 }
+    ensures { IfOk result (λ _. list.new ≡ list.old ++ pair_list degree (pair_on grid.now receiver)) }
 {
     let pair = PolyPair::on_grid(alloc, grid, receiver)?;
-    push_padded(list, pair.row(), d + 1)?;
-    push_padded(list, pair.column(), d + 1)
+    push_padded(list, pair.row(), degree + 1)?;
+    push_padded(list, pair.column(), degree + 1)
 }
 
-// The pair of receiver j on a grid of degree d, at the end of the list.
+// The pair of a receiver on a grid of a degree, at the end of the list.
 fn push_reveal(
     alloc: Global,
     list: &mut RevealList,
     grid: &Grid,
-    d: usize,
+    degree: usize,
     lane: u32,
-    j: u32,
+    receiver: u32,
 ) -> Result<(), OutOfMemory>
-    requires { d ≤ 4 }
-    ensures { IfOk result (λ _. list.new ≡ list.old ++ reveal_item d lane j (Option.Some (pair_on grid.now j))) }
+    requires { degree ≤ 4 }
+    ensures { IfOk result
+        (λ _. list.new ≡ list.old ++ reveal_item degree lane receiver (Option.Some (pair_on grid.now receiver))) }
 {
-    let pair = PolyPair::on_grid(alloc, grid, j)?;
+    let pair = PolyPair::on_grid(alloc, grid, receiver)?;
     list.push(Reveal {
         lane,
-        receiver: j,
-        row: padded(alloc, pair.row(), d + 1)?,
-        column: padded(alloc, pair.column(), d + 1)?,
+        receiver,
+        row: padded(alloc, pair.row(), degree + 1)?,
+        column: padded(alloc, pair.column(), degree + 1)?,
     })
 }
 
-// Whether some complaint of receiver j in instance i tells values other than the grid's.
-fn tells_off(s: &Setting, grid: &Grid, posts: &ComplaintTables<'_>, i: u32, j: u32) -> bool
-    requires receiver { IsReceiver s.now j }
-    requires all { length posts.now ≡ seats s.now }
-    ensures { result ≡ anyone s.now.receivers (λ k. off_grid grid.now j k (heard_complaint s.now posts.now i j k)) }
+// Whether some complaint of a receiver in an instance tells values other than the grid's.
+fn tells_off(
+    setting: &Setting,
+    grid: &Grid,
+    posts: &ComplaintTables<'_>,
+    instance: u32,
+    receiver: u32,
+) -> bool
+    requires receiver { IsReceiver setting.now receiver }
+    requires all { length posts.now ≡ seats setting.now }
+    ensures { result ≡ anyone setting.now.receivers
+        (λ k. off_grid grid.now receiver k (heard_complaint setting.now posts.now instance receiver k)) }
 {
-    let seat = s.seat_of(j);
+    let seat = setting.seat_of(receiver);
     let mut off = false;
-    for k in 1..s.receivers() + 1 {
-        off = off || is_off(grid, j, k, posts.complaint(seat, i, k));
+    for k in 1..setting.receivers() + 1 {
+        off = off || is_off(grid, receiver, k, posts.complaint(seat, instance, k));
     }
     off
 }
 
-// Whether a complaint of j against k tells values other than the grid's.
-fn is_off(grid: &Grid, j: u32, k: u32, told: Option<Crossing>) -> bool
-    ensures { result ≡ off_grid grid.now j k told }
+// Whether a complaint of a receiver against another one tells values other than the grid's.
+fn is_off(grid: &Grid, receiver: u32, other: u32, told: Option<Crossing>) -> bool
+    ensures { result ≡ off_grid grid.now receiver other told }
 {
     match told {
         None => false,
         Some(told) => {
-            let x = Fe::reduce(u64::from(j));
-            let y = Fe::reduce(u64::from(k));
+            let x = Fe::reduce(u64::from(receiver));
+            let y = Fe::reduce(u64::from(other));
             told.row != grid.at(y, x) || told.column != grid.at(x, y)
         }
     }

@@ -101,53 +101,57 @@ impl TryCopy for PolyPair {
 /// Pairs, one for each instance. Contracts see the list of them.
 pub type PairList = List<PolyPair>;
 
-// The first n coefficients of a polynomial, zeros past the last, at the end of the list.
-pub(crate) fn push_padded(list: &mut FeList, p: &Poly, n: usize) -> Result<(), OutOfMemory>
-    ensures { IfOk result (λ _. list.new ≡ list.old ++ padded n p.now.coeffs) }
+// The first `count` coefficients of a polynomial, zeros past the last, at the end of the list.
+pub(crate) fn push_padded(
+    list: &mut FeList,
+    polynomial: &Poly,
+    count: usize,
+) -> Result<(), OutOfMemory>
+    ensures { IfOk result (λ _. list.new ≡ list.old ++ padded count polynomial.now.coeffs) }
 {
-    for k in 0..n {
-        list.push(p.coeff(k))?;
+    for k in 0..count {
+        list.push(polynomial.coeff(k))?;
     }
     Ok(())
 }
 
-// The first n coefficients of a polynomial, zeros past the last.
-pub(crate) fn padded(alloc: Global, p: &Poly, n: usize) -> Result<FeList, OutOfMemory>
-    ensures { IfOk result (λ l. l ≡ padded n p.now.coeffs) }
+// The first `count` coefficients of a polynomial, zeros past the last.
+pub(crate) fn padded(alloc: Global, polynomial: &Poly, count: usize) -> Result<FeList, OutOfMemory>
+    ensures { IfOk result (λ l. l ≡ padded count polynomial.now.coeffs) }
 {
     let mut list = FeList::new(alloc);
-    push_padded(&mut list, p, n)?;
+    push_padded(&mut list, polynomial, count)?;
     Ok(list)
 }
 
-// The pair of a lane in a dealer's message of degree d, zeros where it sent nothing.
+// The pair of a lane in a dealer's message of a degree, zeros where it sent nothing.
 pub(crate) fn dealt_pair(
     alloc: Global,
     ring: &Ring,
-    d: usize,
+    degree: usize,
     lane: usize,
 ) -> Result<PolyPair, OutOfMemory>
     requires lane { lane < 5 }
-    requires degree { d ≤ 4 }
-    requires long { DealtLong d ring.now }
-    ensures { IfOk result (λ p. p ≡ dealt_in d lane ring.now) }
+    requires degree { degree ≤ 4 }
+    requires long { DealtLong degree ring.now }
+    ensures { IfOk result (λ p. p ≡ dealt_in degree lane ring.now) }
 {
     match ring {
         Ring::Dealt { list } => Ok(PolyPair {
-            row: dealt_part(alloc, list, d + 1, 2 * lane)?,
-            column: dealt_part(alloc, list, d + 1, 2 * lane + 1)?,
+            row: dealt_part(alloc, list, degree + 1, 2 * lane)?,
+            column: dealt_part(alloc, list, degree + 1, 2 * lane + 1)?,
         }),
         _ => PolyPair::zero(alloc),
     }
 }
 
-// The polynomial of the k-th part of n coefficients, counted from 0.
-fn dealt_part(alloc: Global, list: &FeList, n: usize, k: usize) -> Result<Poly, OutOfMemory>
-    requires parts { k < 10 }
-    requires size { n ≤ 5 }
-    requires long { length list.now ≡ 10 * n }
-    ensures { IfOk result (λ p. p ≡ poly (part n k list.now)) }
+// The polynomial of the part at a place, of `count` coefficients each; places count from 0.
+fn dealt_part(alloc: Global, list: &FeList, count: usize, place: usize) -> Result<Poly, OutOfMemory>
+    requires parts { place < 10 }
+    requires size { count ≤ 5 }
+    requires long { length list.now ≡ 10 * count }
+    ensures { IfOk result (λ p. p ≡ poly (part count place list.now)) }
 {
     let coeffs = list.as_slice();
-    Poly::from_coeffs(alloc, &coeffs[k * n..k * n + n])
+    Poly::from_coeffs(alloc, &coeffs[place * count..place * count + count])
 }

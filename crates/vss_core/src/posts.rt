@@ -11,16 +11,16 @@ use sharing61::Crossing;
 use std::alloc::Global;
 use talk::{Complaint, ComplaintList, Post, Reveal, RevealList, Ring};
 
-// The crossing pair of instance i in a message of the second round.
-pub(crate) fn crossing(ring: &Ring, instances: u32, i: u32) -> Option<Crossing>
+// The crossing pair of an instance in a message of the second round.
+pub(crate) fn crossing(ring: &Ring, instances: u32, instance: u32) -> Option<Crossing>
     requires long { CrossLong instances ring.now }
-    requires instance { i < instances }
+    requires instance { instance < instances }
     requires few { instances ≤ 75 }
-    ensures { result ≡ crossed_in i ring.now }
+    ensures { result ≡ crossed_in instance ring.now }
 {
     match ring {
         Ring::Cross { list } => {
-            let at = 2 * i as usize;
+            let at = 2 * instance as usize;
             Some(Crossing {
                 row: *list.at(at),
                 column: *list.at(at + 1),
@@ -40,22 +40,22 @@ pub(crate) fn told_by(complaint: &Complaint) -> Crossing
     }
 }
 
-// The complaint of instance i against k in a post.
-pub(crate) fn complaint_in(post: &Post, i: u32, k: u32) -> Option<Crossing>
-    ensures { result ≡ listed_in i k post.now }
+// The complaint of an instance against a receiver in a post.
+pub(crate) fn complaint_in(post: &Post, instance: u32, against: u32) -> Option<Crossing>
+    ensures { result ≡ listed_in instance against post.now }
 {
     match post {
-        Post::Complaints { list } => complaint_at(list, i, k),
+        Post::Complaints { list } => complaint_at(list, instance, against),
         _ => None,
     }
 }
 
-// The first complaint of instance i against k.
-fn complaint_at(list: &ComplaintList, i: u32, k: u32) -> Option<Crossing>
-    ensures { result ≡ complaint_at i k list.now }
+// The first complaint of an instance against a receiver.
+fn complaint_at(list: &ComplaintList, instance: u32, against: u32) -> Option<Crossing>
+    ensures { result ≡ complaint_at instance against list.now }
 {
     for complaint in list.as_slice() {
-        if complaint.instance == i && complaint.against == k {
+        if complaint.instance == instance && complaint.against == against {
             return Some(told_by(complaint));
         }
     }
@@ -67,12 +67,12 @@ pub(crate) fn revealed_in(
     alloc: Global,
     post: &Post,
     lane: u32,
-    j: u32,
+    receiver: u32,
 ) -> Result<Option<PolyPair>, OutOfMemory>
-    ensures { IfOk result (λ o. o ≡ shown_in lane j post.now) }
+    ensures { IfOk result (λ o. o ≡ shown_in lane receiver post.now) }
 {
     match post {
-        Post::Reveals { list } => reveal_at(alloc, list, lane, j),
+        Post::Reveals { list } => reveal_at(alloc, list, lane, receiver),
         _ => Ok(None),
     }
 }
@@ -82,12 +82,12 @@ fn reveal_at(
     alloc: Global,
     list: &RevealList,
     lane: u32,
-    j: u32,
+    receiver: u32,
 ) -> Result<Option<PolyPair>, OutOfMemory>
-    ensures { IfOk result (λ o. o ≡ reveal_at lane j list.now) }
+    ensures { IfOk result (λ o. o ≡ reveal_at lane receiver list.now) }
 {
     for reveal in list.as_slice() {
-        if reveal.lane == lane && reveal.receiver == j {
+        if reveal.lane == lane && reveal.receiver == receiver {
             return Ok(Some(PolyPair::new(
                 Poly::from_coeffs(alloc, reveal.row.as_slice())?,
                 Poly::from_coeffs(alloc, reveal.column.as_slice())?,
@@ -98,33 +98,33 @@ fn reveal_at(
 }
 
 // Whether a post reveals no pair of a lane and receiver.
-pub(crate) fn is_hidden(post: &Post, lane: u32, j: u32) -> bool
-    ensures { result ≡ is_none (shown_in lane j post.now) }
+pub(crate) fn is_hidden(post: &Post, lane: u32, receiver: u32) -> bool
+    ensures { result ≡ is_none (shown_in lane receiver post.now) }
 {
     match post {
-        Post::Reveals { list } => is_absent(list, lane, j),
+        Post::Reveals { list } => is_absent(list, lane, receiver),
         _ => true,
     }
 }
 
 // Whether no reveal of a lane and receiver is there.
-fn is_absent(list: &RevealList, lane: u32, j: u32) -> bool
-    ensures { result ≡ is_none (reveal_at lane j list.now) }
+fn is_absent(list: &RevealList, lane: u32, receiver: u32) -> bool
+    ensures { result ≡ is_none (reveal_at lane receiver list.now) }
 {
     for reveal in list.as_slice() {
-        if reveal.lane == lane && reveal.receiver == j {
+        if reveal.lane == lane && reveal.receiver == receiver {
             return false;
         }
     }
     true
 }
 
-// The vote on instance i in a post.
-pub(crate) fn voted_in(post: &Post, i: u32) -> bool
-    ensures { result ≡ voted_in i post.now }
+// The vote on an instance in a post.
+pub(crate) fn voted_in(post: &Post, instance: u32) -> bool
+    ensures { result ≡ voted_in instance post.now }
 {
     match post {
-        Post::Votes { list } => (i as usize) < list.len() && *list.at(i as usize),
+        Post::Votes { list } => (instance as usize) < list.len() && *list.at(instance as usize),
         _ => false,
     }
 }

@@ -70,44 +70,50 @@ impl Ready {
 // The pairs of all instances.
 fn held_pairs(
     alloc: Global,
-    s: &Setting,
+    setting: &Setting,
     me: u32,
     rings: &RingList,
     own: Option<&Dealer>,
 ) -> Result<PairList, OutOfMemory>
-    requires receiver { IsReceiver s.now me }
-    requires rings { RoundRings s.now 1 me rings.now }
-    ensures { IfOk result (λ l. l ≡ map (holds s.now me (own_grids own.entry) rings.now) (places (instances s.now))) }
+    requires receiver { IsReceiver setting.now me }
+    requires rings { RoundRings setting.now 1 me rings.now }
+    ensures { IfOk result
+        (λ l. l ≡ map (holds setting.now me (own_grids own.entry) rings.now) (places (instances setting.now))) }
 {
     let mut pairs = PairList::new(alloc);
-    for i in 0..s.instances() {
-        pairs.push(held_pair(alloc, s, me, rings, own, i)?)?;
+    for i in 0..setting.instances() {
+        pairs.push(held_pair(alloc, setting, me, rings, own, i)?)?;
     }
     Ok(pairs)
 }
 
-// The pair of instance i.
+// The pair of an instance.
 fn held_pair(
     alloc: Global,
-    s: &Setting,
+    setting: &Setting,
     me: u32,
     rings: &RingList,
     own: Option<&Dealer>,
-    i: u32,
+    index: u32,
 ) -> Result<PolyPair, OutOfMemory>
-    requires receiver { IsReceiver s.now me }
-    requires rings { RoundRings s.now 1 me rings.now }
-    requires instance { i < instances s.now }
-    ensures { IfOk result (λ p. p ≡ holds s.now me (own_grids own.entry) rings.now i) }
+    requires receiver { IsReceiver setting.now me }
+    requires rings { RoundRings setting.now 1 me rings.now }
+    requires instance { index < instances setting.now }
+    ensures { IfOk result (λ p. p ≡ holds setting.now me (own_grids own.entry) rings.now index) }
 {
-    let dealers = s.dealers();
-    let instance = Instance::of(i);
+    let dealers = setting.dealers();
+    let instance = Instance::of(index);
     prove!(instance.dealer <= dealers);
-    if instance.dealer == s.seat_of(me) {
+    if instance.dealer == setting.seat_of(me) {
         return own_pair(alloc, own, instance.lane, me);
     }
     let ring = rings.at((instance.dealer - 1) as usize);
-    dealt_pair(alloc, ring, s.degree() as usize, instance.lane as usize)
+    dealt_pair(
+        alloc,
+        ring,
+        setting.degree() as usize,
+        instance.lane as usize,
+    )
 }
 
 // The own pair in a lane.

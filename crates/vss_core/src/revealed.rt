@@ -38,7 +38,8 @@ impl Model for Revealed {
 
     ghost view = { λ d. record { shape = d.setting; me = d.me; pairs = d.pairs; fourth = d.fourth; votes = d.votes } };
 
-    ghost invariant = { λ d. IsReceiver d.setting d.me × ((length d.pairs ≡ instances d.setting) × (length d.fourth ≡ seats d.setting)) };
+    ghost invariant = { λ d. IsReceiver d.setting d.me
+        × ((length d.pairs ≡ instances d.setting) × (length d.fourth ≡ seats d.setting)) };
 }
 
 impl Revealed {
@@ -112,33 +113,34 @@ impl Revealed {
 }
 
 // Which instances are accepted.
-fn all_accepted(alloc: Global, s: &Setting, posts: &PostList) -> Result<VoteList, OutOfMemory>
-    requires { length posts.now ≡ seats s.now }
-    ensures { IfOk result (λ l. l ≡ map (heard_accepted s.now posts.now) (places (instances s.now))) }
+fn all_accepted(alloc: Global, setting: &Setting, posts: &PostList) -> Result<VoteList, OutOfMemory>
+    requires { length posts.now ≡ seats setting.now }
+    ensures { IfOk result (λ l. l ≡ map (heard_accepted setting.now posts.now) (places (instances setting.now))) }
 {
     let mut accepted = VoteList::new(alloc);
-    for i in 0..s.instances() {
-        accepted.push(is_accepted(s, posts, i))?;
+    for i in 0..setting.instances() {
+        accepted.push(is_accepted(setting, posts, i))?;
     }
     Ok(accepted)
 }
 
-// Whether instance i is accepted.
-fn is_accepted(s: &Setting, posts: &PostList, i: u32) -> bool
-    requires { length posts.now ≡ seats s.now }
-    ensures { result ≡ heard_accepted s.now posts.now i }
+// Whether an instance is accepted.
+fn is_accepted(setting: &Setting, posts: &PostList, instance: u32) -> bool
+    requires { length posts.now ≡ seats setting.now }
+    ensures { result ≡ heard_accepted setting.now posts.now instance }
 {
-    yes_votes(s, posts, i) >= s.receivers() - s.bound()
+    yes_votes(setting, posts, instance) >= setting.receivers() - setting.bound()
 }
 
-// How many receivers vote yes on instance i.
-fn yes_votes(s: &Setting, posts: &PostList, i: u32) -> u32
-    requires { length posts.now ≡ seats s.now }
-    ensures { result ≡ how_many s.now.receivers (λ j. voted_in i (post_at posts.now (seat_of s.now j))) }
+// How many receivers vote yes on an instance.
+fn yes_votes(setting: &Setting, posts: &PostList, instance: u32) -> u32
+    requires { length posts.now ≡ seats setting.now }
+    ensures { result ≡ how_many setting.now.receivers
+        (λ j. voted_in instance (post_at posts.now (seat_of setting.now j))) }
 {
     let mut count = 0;
-    for j in 1..s.receivers() + 1 {
-        if voted_in(posts.at((s.seat_of(j) - 1) as usize), i) {
+    for j in 1..setting.receivers() + 1 {
+        if voted_in(posts.at((setting.seat_of(j) - 1) as usize), instance) {
             count += 1;
         }
     }
@@ -148,44 +150,46 @@ fn yes_votes(s: &Setting, posts: &PostList, i: u32) -> u32
 // The pairs of all instances in the end.
 fn kept_pairs(
     alloc: Global,
-    s: &Setting,
+    setting: &Setting,
     me: u32,
     pairs: &PairList,
     fourth: &PostList,
     fifth: &PostList,
 ) -> Result<PairList, OutOfMemory>
-    requires pairs { length pairs.now ≡ instances s.now }
-    requires fourth { length fourth.now ≡ seats s.now }
-    requires fifth { length fifth.now ≡ seats s.now }
-    ensures { IfOk result (λ l. l ≡ map (keeps s.now me pairs.now fourth.now fifth.now) (places (instances s.now))) }
+    requires pairs { length pairs.now ≡ instances setting.now }
+    requires fourth { length fourth.now ≡ seats setting.now }
+    requires fifth { length fifth.now ≡ seats setting.now }
+    ensures { IfOk result
+        (λ l. l ≡ map (keeps setting.now me pairs.now fourth.now fifth.now) (places (instances setting.now))) }
 {
     let mut kept = PairList::new(alloc);
-    for i in 0..s.instances() {
-        kept.push(kept_pair(alloc, s, me, pairs.at(i as usize), fourth, fifth, i)?)?;
+    for i in 0..setting.instances() {
+        kept.push(kept_pair(alloc, setting, me, pairs.at(i as usize), fourth, fifth, i)?)?;
     }
     Ok(kept)
 }
 
-// The pair of instance i in the end, of which `pair` is held.
+// The pair of an instance in the end, of which `pair` is held.
 fn kept_pair(
     alloc: Global,
-    s: &Setting,
+    setting: &Setting,
     me: u32,
     pair: &PolyPair,
     fourth: &PostList,
     fifth: &PostList,
-    i: u32,
+    index: u32,
 ) -> Result<PolyPair, OutOfMemory>
-    requires fourth { length fourth.now ≡ seats s.now }
-    requires fifth { length fifth.now ≡ seats s.now }
-    requires instance { i < instances s.now }
-    ensures { IfOk result (λ p. p ≡ kept_of (heard_accepted s.now fifth.now i) (heard_shown fourth.now i me) pair.now) }
+    requires fourth { length fourth.now ≡ seats setting.now }
+    requires fifth { length fifth.now ≡ seats setting.now }
+    requires instance { index < instances setting.now }
+    ensures { IfOk result
+        (λ p. p ≡ kept_of (heard_accepted setting.now fifth.now index) (heard_shown fourth.now index me) pair.now) }
 {
-    if !is_accepted(s, fifth, i) {
+    if !is_accepted(setting, fifth, index) {
         return PolyPair::zero(alloc);
     }
-    let dealers = s.dealers();
-    let instance = Instance::of(i);
+    let dealers = setting.dealers();
+    let instance = Instance::of(index);
     prove!(instance.dealer <= dealers);
     let post = fourth.at((instance.dealer - 1) as usize);
     match revealed_in(alloc, post, instance.lane, me)? {

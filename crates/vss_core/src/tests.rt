@@ -26,18 +26,18 @@ fn elements(alloc: Global, numbers: &[u64]) -> Result<FeList, OutOfMemory> {
 #[tactic(auto, using(talk::proofs::Fit::read_ok))]
 fn four_posts(
     alloc: Global,
-    s: &Setting,
+    setting: &Setting,
     round: u32,
     posts: (Post, Post, Post, Post),
 ) -> Result<PostList, OutOfMemory>
-    requires { seats s.now ≡ 4 }
-    ensures { IfOk result (λ l. RoundPosts s.now round l) }
+    requires { seats setting.now ≡ 4 }
+    ensures { IfOk result (λ l. RoundPosts setting.now round l) }
 {
     let mut list = PostList::new(alloc);
-    list.push(as_read(posts.0, round, 1, s))?;
-    list.push(as_read(posts.1, round, 2, s))?;
-    list.push(as_read(posts.2, round, 3, s))?;
-    list.push(as_read(posts.3, round, 4, s))?;
+    list.push(as_read(posts.0, round, 1, setting))?;
+    list.push(as_read(posts.1, round, 2, setting))?;
+    list.push(as_read(posts.2, round, 3, setting))?;
+    list.push(as_read(posts.3, round, 4, setting))?;
     Ok(list)
 }
 
@@ -45,31 +45,31 @@ fn four_posts(
 #[tactic(auto, using(talk::proofs::Fit::ring_read_ok))]
 fn four_rings(
     alloc: Global,
-    s: &Setting,
+    setting: &Setting,
     round: u32,
     me: u32,
     items: (Ring, Ring, Ring, Ring),
 ) -> Result<RingList, OutOfMemory>
-    requires four { seats s.now ≡ 4 }
-    requires receiver { IsReceiver s.now me }
-    ensures { IfOk result (λ l. RoundRings s.now round me l) }
+    requires four { seats setting.now ≡ 4 }
+    requires receiver { IsReceiver setting.now me }
+    ensures { IfOk result (λ l. RoundRings setting.now round me l) }
 {
-    let to = s.seat_of(me);
+    let to = setting.seat_of(me);
     let mut list = RingList::new(alloc);
-    list.push(ring_as_read(items.0, round, 1, to, s))?;
-    list.push(ring_as_read(items.1, round, 2, to, s))?;
-    list.push(ring_as_read(items.2, round, 3, to, s))?;
-    list.push(ring_as_read(items.3, round, 4, to, s))?;
+    list.push(ring_as_read(items.0, round, 1, to, setting))?;
+    list.push(ring_as_read(items.1, round, 2, to, setting))?;
+    list.push(ring_as_read(items.2, round, 3, to, setting))?;
+    list.push(ring_as_read(items.3, round, 4, to, setting))?;
     Ok(list)
 }
 
 // A receiver to whom dealer 4 deals a row and a column of degree 1 in lane 0, zeros in the others, and nobody else
 // deals anything.
-fn deal_to(alloc: Global, s: &Setting, me: u32, pair: [u64; 4]) -> Result<Dealt, OutOfMemory>
-    requires four { seats s.now ≡ 4 }
-    requires receiver { IsReceiver s.now me }
-    ensures same { IfOk result (λ d. (d.shape ≡ s.now) × (d.me ≡ me)) }
-    ensures receivers { IfOk result (λ d. d.shape.receivers ≡ s.now.receivers) }
+fn deal_to(alloc: Global, setting: &Setting, me: u32, pair: [u64; 4]) -> Result<Dealt, OutOfMemory>
+    requires four { seats setting.now ≡ 4 }
+    requires receiver { IsReceiver setting.now me }
+    ensures same { IfOk result (λ d. (d.shape ≡ setting.now) × (d.me ≡ me)) }
+    ensures receivers { IfOk result (λ d. d.shape.receivers ≡ setting.now.receivers) }
 {
     let mut list = elements(alloc, &pair)?;
     for _ in 0..16 {
@@ -81,8 +81,8 @@ fn deal_to(alloc: Global, s: &Setting, me: u32, pair: [u64; 4]) -> Result<Dealt,
         Ring::Nothing,
         Ring::Dealt { list },
     );
-    let rings = four_rings(alloc, s, 1, me, items)?;
-    let Ok(dealt) = Ready::new(*s, me).hear_deals(alloc, &rings, None) else {
+    let rings = four_rings(alloc, setting, 1, me, items)?;
+    let Ok(dealt) = Ready::new(*setting, me).hear_deals(alloc, &rings, None) else {
         return Err(OutOfMemory);
     };
     Ok(dealt)
@@ -100,17 +100,17 @@ fn cross(alloc: Global, from: &Dealt, to: u32) -> Result<Ring, OutOfMemory>
 // The receiver after the second round.
 fn hear_second(
     alloc: Global,
-    s: &Setting,
+    setting: &Setting,
     me: u32,
     dealt: Dealt,
     items: (Ring, Ring, Ring, Ring),
 ) -> Result<Crossed, OutOfMemory>
-    requires four { seats s.now ≡ 4 }
-    requires receiver { IsReceiver s.now me }
-    requires same { (dealt.shape ≡ s.now) × (dealt.me ≡ me) }
-    ensures { IfOk result (λ d. d.shape ≡ s.now) }
+    requires four { seats setting.now ≡ 4 }
+    requires receiver { IsReceiver setting.now me }
+    requires same { (dealt.shape ≡ setting.now) × (dealt.me ≡ me) }
+    ensures { IfOk result (λ d. d.shape ≡ setting.now) }
 {
-    let rings = four_rings(alloc, s, 2, me, items)?;
+    let rings = four_rings(alloc, setting, 2, me, items)?;
     let Ok(crossed) = dealt.hear_crosses(alloc, &rings) else {
         return Err(OutOfMemory);
     };
@@ -120,15 +120,15 @@ fn hear_second(
 // The receiver after the fourth round.
 fn hear_fourth(
     alloc: Global,
-    s: &Setting,
+    setting: &Setting,
     crossed: Crossed,
     third: &PostList,
     fourth: &PostList,
 ) -> Result<Revealed, OutOfMemory>
-    requires same { crossed.shape ≡ s.now }
-    requires third { RoundPosts s.now 3 third.now }
-    requires fourth { RoundPosts s.now 4 fourth.now }
-    ensures { IfOk result (λ d. d.shape ≡ s.now) }
+    requires same { crossed.shape ≡ setting.now }
+    requires third { RoundPosts setting.now 3 third.now }
+    requires fourth { RoundPosts setting.now 4 fourth.now }
+    ensures { IfOk result (λ d. d.shape ≡ setting.now) }
 {
     let Ok(complained) = crossed.hear_complaints(alloc, third) else {
         return Err(OutOfMemory);
@@ -142,13 +142,13 @@ fn hear_fourth(
 // The receiver after the votes.
 fn hear_fifth(
     alloc: Global,
-    s: &Setting,
+    setting: &Setting,
     revealed: Revealed,
     fifth: &PostList,
 ) -> Result<Done, OutOfMemory>
-    requires same { revealed.shape ≡ s.now }
-    requires fifth { RoundPosts s.now 5 fifth.now }
-    ensures { IfOk result (λ d. instances d.shape ≡ instances s.now) }
+    requires same { revealed.shape ≡ setting.now }
+    requires fifth { RoundPosts setting.now 5 fifth.now }
+    ensures { IfOk result (λ d. instances d.shape ≡ instances setting.now) }
 {
     let Ok(done) = revealed.hear_votes(alloc, fifth) else {
         return Err(OutOfMemory);
@@ -250,14 +250,14 @@ fn pairs_that_only_differ_from_themselves_are_not_accepted(
     Ok(())
 }
 
-fn zeros(alloc: Global, s: &Setting, me: u32) -> Result<Dealt, OutOfMemory>
-    requires four { seats s.now ≡ 4 }
-    requires receiver { IsReceiver s.now me }
-    ensures { IfOk result (λ d. (d.shape ≡ s.now) × (d.me ≡ me)) }
+fn zeros(alloc: Global, setting: &Setting, me: u32) -> Result<Dealt, OutOfMemory>
+    requires four { seats setting.now ≡ 4 }
+    requires receiver { IsReceiver setting.now me }
+    ensures { IfOk result (λ d. (d.shape ≡ setting.now) × (d.me ≡ me)) }
 {
     let nothing = (Ring::Nothing, Ring::Nothing, Ring::Nothing, Ring::Nothing);
-    let rings = four_rings(alloc, s, 1, me, nothing)?;
-    let Ok(dealt) = Ready::new(*s, me).hear_deals(alloc, &rings, None) else {
+    let rings = four_rings(alloc, setting, 1, me, nothing)?;
+    let Ok(dealt) = Ready::new(*setting, me).hear_deals(alloc, &rings, None) else {
         return Err(OutOfMemory);
     };
     Ok(dealt)
@@ -285,57 +285,72 @@ fn false_reveal(alloc: Global) -> Result<Post, OutOfMemory> {
 }
 
 // Receiver `me`, 1 or 2, after the second round, with what the other of the two says: both hold zeros alone.
-fn crossed_zeros(alloc: Global, s: &Setting, me: u32, other: u32) -> Result<Crossed, OutOfMemory>
-    requires four { seats s.now ≡ 4 }
-    requires receiver { IsReceiver s.now me }
-    requires other { IsReceiver s.now other }
-    ensures { IfOk result (λ d. d.shape ≡ s.now) }
+fn crossed_zeros(
+    alloc: Global,
+    setting: &Setting,
+    me: u32,
+    other: u32,
+) -> Result<Crossed, OutOfMemory>
+    requires four { seats setting.now ≡ 4 }
+    requires receiver { IsReceiver setting.now me }
+    requires other { IsReceiver setting.now other }
+    ensures { IfOk result (λ d. d.shape ≡ setting.now) }
 {
-    let dealt = zeros(alloc, s, me)?;
-    let said = cross(alloc, &zeros(alloc, s, other)?, me)?;
+    let dealt = zeros(alloc, setting, me)?;
+    let said = cross(alloc, &zeros(alloc, setting, other)?, me)?;
     let items = if other == 1 {
         (said, Ring::Nothing, Ring::Nothing, Ring::Nothing)
     } else {
         (Ring::Nothing, said, Ring::Nothing, Ring::Nothing)
     };
-    hear_second(alloc, s, me, dealt, items)
+    hear_second(alloc, setting, me, dealt, items)
 }
 
 // The posts of the third round. In each instance 1 and 2 complain of 3 and 4, of whom they hear nothing, and nobody
 // complains of 1 or 2; 3 and 4 post nothing.
-fn zeros_third(alloc: Global, s: &Setting) -> Result<PostList, OutOfMemory>
-    requires four { seats s.now ≡ 4 }
-    requires all { s.now.receivers ≡ 4 }
-    ensures { IfOk result (λ l. RoundPosts s.now 3 l) }
+fn zeros_third(alloc: Global, setting: &Setting) -> Result<PostList, OutOfMemory>
+    requires four { seats setting.now ≡ 4 }
+    requires all { setting.now.receivers ≡ 4 }
+    ensures { IfOk result (λ l. RoundPosts setting.now 3 l) }
 {
-    let one = complaints(alloc, &crossed_zeros(alloc, s, 1, 2)?)?;
-    let two = complaints(alloc, &crossed_zeros(alloc, s, 2, 1)?)?;
-    four_posts(alloc, s, 3, (one, two, Post::Quiet, Post::Quiet))
+    let one = complaints(alloc, &crossed_zeros(alloc, setting, 1, 2)?)?;
+    let two = complaints(alloc, &crossed_zeros(alloc, setting, 2, 1)?)?;
+    four_posts(alloc, setting, 3, (one, two, Post::Quiet, Post::Quiet))
 }
 
 // Receiver `me` after the fourth round, in which dealer 4 reveals a false pair of receiver 2.
-fn revealed_zeros(alloc: Global, s: &Setting, me: u32) -> Result<Revealed, OutOfMemory>
-    requires four { seats s.now ≡ 4 }
-    requires all { s.now.receivers ≡ 4 }
+fn revealed_zeros(alloc: Global, setting: &Setting, me: u32) -> Result<Revealed, OutOfMemory>
+    requires four { seats setting.now ≡ 4 }
+    requires all { setting.now.receivers ≡ 4 }
     requires receiver { (1 ≤ me) × (me ≤ 2) }
-    ensures { IfOk result (λ d. d.shape ≡ s.now) }
+    ensures { IfOk result (λ d. d.shape ≡ setting.now) }
 {
-    let crossed = crossed_zeros(alloc, s, me, 3 - me)?;
-    let third = zeros_third(alloc, s)?;
+    let crossed = crossed_zeros(alloc, setting, me, 3 - me)?;
+    let third = zeros_third(alloc, setting)?;
     let reveal = false_reveal(alloc)?;
-    let fourth = four_posts(alloc, s, 4, (Post::Quiet, Post::Quiet, Post::Quiet, reveal))?;
-    hear_fourth(alloc, s, crossed, &third, &fourth)
+    let fourth = four_posts(
+        alloc,
+        setting,
+        4,
+        (Post::Quiet, Post::Quiet, Post::Quiet, reveal),
+    )?;
+    hear_fourth(alloc, setting, crossed, &third, &fourth)
 }
 
 // The posts of the last round: the votes of 1 and 2, and yes to everything by 3 and 4.
-fn zeros_fifth(alloc: Global, s: &Setting) -> Result<PostList, OutOfMemory>
-    requires four { seats s.now ≡ 4 }
-    requires all { s.now.receivers ≡ 4 }
-    ensures { IfOk result (λ l. RoundPosts s.now 5 l) }
+fn zeros_fifth(alloc: Global, setting: &Setting) -> Result<PostList, OutOfMemory>
+    requires four { seats setting.now ≡ 4 }
+    requires all { setting.now.receivers ≡ 4 }
+    ensures { IfOk result (λ l. RoundPosts setting.now 5 l) }
 {
-    let one = votes(alloc, &revealed_zeros(alloc, s, 1)?)?;
-    let two = votes(alloc, &revealed_zeros(alloc, s, 2)?)?;
-    four_posts(alloc, s, 5, (one, two, all_yes(alloc)?, all_yes(alloc)?))
+    let one = votes(alloc, &revealed_zeros(alloc, setting, 1)?)?;
+    let two = votes(alloc, &revealed_zeros(alloc, setting, 2)?)?;
+    four_posts(
+        alloc,
+        setting,
+        5,
+        (one, two, all_yes(alloc)?, all_yes(alloc)?),
+    )
 }
 
 // The limit of agreement: of four receivers with bound 1 two are faulty, 3 and 4, and 4 deals. Everybody holds zeros.

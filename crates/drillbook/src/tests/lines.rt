@@ -7,8 +7,8 @@ use std::alloc::Global;
 use talk::Setting;
 
 // How many orders a text has.
-fn orders_in(alloc: Global, text: &str, s: &Setting) -> Result<usize, DrillFault> {
-    Ok(read_drill(alloc, text.as_bytes(), s)?.len())
+fn orders_in(alloc: Global, text: &str, setting: &Setting) -> Result<usize, DrillFault> {
+    Ok(read_drill(alloc, text.as_bytes(), setting)?.len())
 }
 
 fn bad(line: u64) -> Result<usize, DrillFault> {

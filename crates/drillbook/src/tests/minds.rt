@@ -150,10 +150,10 @@ fn syndromes(alloc: Global) -> Result<Post, OutOfMemory> {
 }
 
 // What the mind posts in a round.
-fn post_in(alloc: Global, s: &Setting, round: u32) -> Result<Post, OutOfMemory> {
+fn post_in(alloc: Global, setting: &Setting, round: u32) -> Result<Post, OutOfMemory> {
     match round {
         3 => complaints(alloc),
-        4 => reveals(alloc, u64::from(s.degree()) + 1),
+        4 => reveals(alloc, u64::from(setting.degree()) + 1),
         5 => votes(alloc),
         6 => syndromes(alloc),
         _ => Ok(Post::Quiet),
@@ -195,11 +195,11 @@ fn rings_in(alloc: Global, place: &Place, round: u32) -> Result<RingList, OutOfM
 }
 
 // The ring messages, where there is one for each seat and none for the own.
-fn expect_one_each(rings: RingList, s: &Setting, seat: u32) -> Result<RingList, OutOfMemory>
-    ensures { IfOk result (λ l. OneEach s.now seat l) }
+fn expect_one_each(rings: RingList, setting: &Setting, seat: u32) -> Result<RingList, OutOfMemory>
+    ensures { IfOk result (λ l. OneEach setting.now seat l) }
 {
     let own = seat.saturating_sub(1) as usize;
-    if rings.len() != s.seats() as usize || own >= rings.len() {
+    if rings.len() != setting.seats() as usize || own >= rings.len() {
         return Err(OutOfMemory);
     }
     match rings.at(own) {

@@ -4,4 +4,4 @@ use Rattle.drillbook.specs.Orders.{is_lawful}
 use Rattle.drillbook.proofs.drill.each_is_lawful.Given as goal
 
 abbrev pub invariant-loop-order : goal.invariant-loop-order
-invariant-loop-order l = list_all (is_lawful l.s) l.orders ≡ list_all (is_lawful l.s) (drop l.order-index l.orders)
+invariant-loop-order l = list_all (is_lawful l.setting) l.orders ≡ list_all (is_lawful l.setting) (drop l.order-index l.orders)

@@ -5,4 +5,4 @@ use Rattle.plays.specs.Said.{pair_list, places}
 use Rattle.vss_core.proofs.dealer.dealt_to.Given as goal
 
 abbrev pub invariant-loop-lane : goal.invariant-loop-lane
-invariant-loop-lane l = l.list ≡ flat_map (λ k. pair_list l.d (pair_on (get_or l.grids k []) l.receiver)) (places l.lane)
+invariant-loop-lane l = l.list ≡ flat_map (λ k. pair_list l.degree (pair_on (get_or l.grids k []) l.receiver)) (places l.lane)

@@ -5,4 +5,4 @@ use Rattle.plays.specs.Seat.{heard_complaint}
 use Rattle.vss_core.proofs.dealer.tells_off.Given as goal
 
 abbrev pub invariant-loop-k : goal.invariant-loop-k
-invariant-loop-k l = l.off ≡ anyone (l.k - 1) (λ k. off_grid l.grid l.j k (heard_complaint l.s l.posts l.i l.j k))
+invariant-loop-k l = l.off ≡ anyone (l.k - 1) (λ k. off_grid l.grid l.receiver k (heard_complaint l.setting l.posts l.instance l.receiver k))

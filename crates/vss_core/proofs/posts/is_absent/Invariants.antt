@@ -3,4 +3,4 @@ use Rattle.plays.specs.Read.{reveal_at}
 use Rattle.vss_core.proofs.posts.is_absent.Given as goal
 
 abbrev pub invariant-loop-reveal : goal.invariant-loop-reveal
-invariant-loop-reveal l = reveal_at l.lane l.j (drop l.reveal-index l.reveal-items) ≡ reveal_at l.lane l.j l.list
+invariant-loop-reveal l = reveal_at l.lane l.receiver (drop l.reveal-index l.reveal-items) ≡ reveal_at l.lane l.receiver l.list

@@ -5,4 +5,4 @@ use Rattle.vss_core.specs.States.{own_grids}
 use Rattle.vss_core.proofs.ready.held_pairs.Given as goal
 
 abbrev pub invariant-loop-i : goal.invariant-loop-i
-invariant-loop-i l = l.pairs ≡ map (holds l.s l.me (own_grids l.own) l.rings) (places l.i)
+invariant-loop-i l = l.pairs ≡ map (holds l.setting l.me (own_grids l.own) l.rings) (places l.i)

@@ -4,4 +4,4 @@ use Rattle.vss_core.proofs.revealed.all_accepted.Goals as goal
 
 pub loop-i-preserved : goal.loop-i-preserved
 loop-i-preserved c =
-    mapped_step (heard_accepted c.args.s.now c.args.posts.now) c.loop-i.i c.loop-i.accepted _ _ c.loop-i.invariant c.in_ok-push.ensures c.is_accepted.ensures
+    mapped_step (heard_accepted c.args.setting.now c.args.posts.now) c.loop-i.i c.loop-i.accepted _ _ c.loop-i.invariant c.in_ok-push.ensures c.is_accepted.ensures

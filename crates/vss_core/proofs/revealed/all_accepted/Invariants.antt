@@ -4,4 +4,4 @@ use Rattle.plays.specs.Seat.{heard_accepted}
 use Rattle.vss_core.proofs.revealed.all_accepted.Given as goal
 
 abbrev pub invariant-loop-i : goal.invariant-loop-i
-invariant-loop-i l = l.accepted ≡ map (heard_accepted l.s l.posts) (places l.i)
+invariant-loop-i l = l.accepted ≡ map (heard_accepted l.setting l.posts) (places l.i)

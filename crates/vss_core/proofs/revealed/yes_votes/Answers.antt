@@ -7,4 +7,4 @@ use Rattle.vss_core.proofs.revealed.yes_votes.Goals as goal
 
 pub overflow_add-count : goal.overflow_add-count
 overflow_add-count c =
-    omega (arith, c.loop-j.invariant, how_many_most (λ j. voted_in c.args.i (post_at c.args.posts.now (seat_of c.args.s.now j))) (c.loop-j.j - 1))
+    omega (arith, c.loop-j.invariant, how_many_most (λ j. voted_in c.args.instance (post_at c.args.posts.now (seat_of c.args.setting.now j))) (c.loop-j.j - 1))

@@ -11,12 +11,12 @@ use Rattle.vss_core.proofs.votes.all_settled.Goals as goal
 pub each_two_settled-requires-clause-hidden : goal.each_two_settled-requires-clause-hidden
 each_two_settled-requires-clause-hidden c =
     ap (λ (h : List Bool). length h) c.as_slice.ensures.value
-    ∙ mapped_length (λ k. is_none (shown_in c.of.result.lane (k + 1) c.args.reveals.now)) c.args.s.now.receivers c.in_ok-hidden.hidden.items c.in_ok-hidden.ensures
+    ∙ mapped_length (λ k. is_none (shown_in c.of.result.lane (k + 1) c.args.reveals.now)) c.args.setting.now.receivers c.in_ok-hidden.hidden.items c.in_ok-hidden.ensures
 
 pub returns : goal.returns
 returns c =
-    let hidden : c.in_ok-hidden.hidden.items ≡ map (λ k. is_none (shown_in (lane_of c.args.i) (k + 1) c.args.reveals.now)) (places c.args.s.now.receivers) =
-    subst (λ (lane : ℕ). c.in_ok-hidden.hidden.items ≡ map (λ k. is_none (shown_in lane (k + 1) c.args.reveals.now)) (places c.args.s.now.receivers)) c.of.ensures.lane c.in_ok-hidden.ensures in
+    let hidden : c.in_ok-hidden.hidden.items ≡ map (λ k. is_none (shown_in (lane_of c.args.index) (k + 1) c.args.reveals.now)) (places c.args.setting.now.receivers) =
+    subst (λ (lane : ℕ). c.in_ok-hidden.hidden.items ≡ map (λ k. is_none (shown_in lane (k + 1) c.args.reveals.now)) (places c.args.setting.now.receivers)) c.of.ensures.lane c.in_ok-hidden.ensures in
     c.each_two_settled.ensures
-    ∙ ap (λ (h : List Bool). everyone c.args.s.now.receivers (λ k. everyone k (settled_here c.args.s.now c.args.third.now h c.args.i k))) c.as_slice.ensures.value
-    ∙ all_settled_is c.args.s.now c.args.third.now c.args.i c.args.s.now.receivers (λ k. shown_in (lane_of c.args.i) k c.args.reveals.now) c.in_ok-hidden.hidden.items hidden
+    ∙ ap (λ (h : List Bool). everyone c.args.setting.now.receivers (λ k. everyone k (settled_here c.args.setting.now c.args.third.now h c.args.index k))) c.as_slice.ensures.value
+    ∙ all_settled_is c.args.setting.now c.args.third.now c.args.index c.args.setting.now.receivers (λ k. shown_in (lane_of c.args.index) k c.args.reveals.now) c.in_ok-hidden.hidden.items hidden

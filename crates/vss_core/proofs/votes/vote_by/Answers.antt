@@ -9,5 +9,5 @@ pub returns-then-fit : goal.returns-then-fit
 returns-then-fit c =
     vote_parts _ _ _ c.is_hidden-hidden.result c.in_ok-fit.fit c.in_ok-settled.settled
     (c.is_hidden-hidden.ensures ∙ ap (λ (lane : ℕ). is_none (shown_in lane c.args.me c.args.reveals.now)) c.of-lane.ensures.lane)
-    (c.in_ok-fit.ensures ∙ ap (λ (lane : ℕ). everyone c.args.s.now.receivers (λ k. fits c.args.me c.args.pair.now k (shown_in lane k c.args.reveals.now))) c.of-lane.ensures.lane)
+    (c.in_ok-fit.ensures ∙ ap (λ (lane : ℕ). everyone c.args.setting.now.receivers (λ k. fits c.args.me c.args.pair.now k (shown_in lane k c.args.reveals.now))) c.of-lane.ensures.lane)
     c.in_ok-settled.ensures c.if-hidden.true c.if-fit.true

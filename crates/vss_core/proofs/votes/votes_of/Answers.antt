@@ -8,7 +8,7 @@ use Rattle.vss_core.proofs.votes.votes_of.Goals as goal
 
 pub loop-i-preserved : goal.loop-i-preserved
 loop-i-preserved c =
-    mapped_step (says_yes c.args.s.now c.args.me c.args.pairs.now c.args.third.now c.args.fourth.now) c.loop-i.i c.loop-i.votes _ _ c.loop-i.invariant c.in_ok-push.ensures
+    mapped_step (says_yes c.args.setting.now c.args.me c.args.pairs.now c.args.third.now c.args.fourth.now) c.loop-i.i c.loop-i.votes _ _ c.loop-i.invariant c.in_ok-push.ensures
     (c.in_ok-vote_on.ensures
-    ∙ ap (λ (third : List Post). votes_yes c.args.s.now.receivers (heard_complaint c.args.s.now third c.loop-i.i) (heard_shown c.args.fourth.now c.loop-i.i) c.args.me c.at.result.now) c.in_ok-complaints.ensures
-    ∙ ap (λ (p : Pair). votes_yes c.args.s.now.receivers (heard_complaint c.args.s.now c.args.third.now c.loop-i.i) (heard_shown c.args.fourth.now c.loop-i.i) c.args.me p) (at_or c.args.pairs.now c.loop-i.i zero_pair c.at.result.now c.at.ensures))
+    ∙ ap (λ (third : List Post). votes_yes c.args.setting.now.receivers (heard_complaint c.args.setting.now third c.loop-i.i) (heard_shown c.args.fourth.now c.loop-i.i) c.args.me c.at.result.now) c.in_ok-complaints.ensures
+    ∙ ap (λ (p : Pair). votes_yes c.args.setting.now.receivers (heard_complaint c.args.setting.now c.args.third.now c.loop-i.i) (heard_shown c.args.fourth.now c.loop-i.i) c.args.me p) (at_or c.args.pairs.now c.loop-i.i zero_pair c.at.result.now c.at.ensures))
