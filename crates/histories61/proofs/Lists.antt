@@ -1,11 +1,15 @@
 -- Choices and lists that are equal where their parts are.
-use Rattle.std.proofs.Common.{◌≡◌, ℕ, zero, suc, ◌+◌, ◌<◌, ◌≤◌, Bool, true, false, cond, List, ◌∷◌, map, refl, ap₂, arith}
+use Rattle.std.proofs.Common.{◌≡◌, ℕ, zero, suc, ◌+◌, ◌<◌, ◌≤◌, Bool, true, false, cond, List, ◌∷◌, map, refl, ap, ap₂, ◌∙◌, arith}
 use Rattle.std.specs.List.{range_with_len}
 use Rattle.plays.specs.Said.{unless_down}
 
 pub cond_same : {A : Type 0} (b : Bool) (x y u v : A) → (b ≡ true → x ≡ u) → y ≡ v → cond b x y ≡ cond b u v
 cond_same true x y u v f e = f refl
 cond_same false x y u v f e = e
+
+-- by two tests that agree
+pub cond_both : {A : Type 0} (b c : Bool) (x y u v : A) → b ≡ c → (c ≡ true → x ≡ u) → y ≡ v → cond b x y ≡ cond c u v
+cond_both b c x y u v t f e = ap (λ d. cond d x y) t ∙ cond_same c x y u v f e
 
 pub unless_same : {A : Type 0} (b : Bool) (said x y : A) → (b ≡ false → x ≡ y) → unless_down b said x ≡ unless_down b said y
 unless_same true said x y e = refl

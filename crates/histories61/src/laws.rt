@@ -32,8 +32,9 @@ pub fn a_play_is_heard_to_its_end()
     ensures { HeardToItsEnd }
 {}
 
-/// Two plays of one setting, with the same seats down, that agree in the honest dealers' grids and in what those who are
-/// down say, accept the same instances, give every receiver the same shares, and have the same sixth round.
+/// Two plays of one setting, with the same seats of it down, that agree in the honest dealers' grids and in what those who
+/// are down say in its rounds, accept the same instances, give every receiver the same shares, and have the same sixth
+/// round, where the setting has one.
 pub fn plays_that_agree_end_alike()
     ensures { AgreeEndAlike }
 {}
