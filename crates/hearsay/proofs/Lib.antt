@@ -1,0 +1,5 @@
+pub mod Lists
+pub mod Items
+pub mod Heard
+pub mod Grids
+pub mod Record

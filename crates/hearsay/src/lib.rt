@@ -1,0 +1,7 @@
+//! What is heard of the seats that are down in a phase, and the record that is kept of it.
+#![tactic(auto)]
+
+pub mod laws;
+mod said;
+
+pub use said::said_of;
