@@ -1,5 +1,5 @@
 -- A plan that was carried out is what the words mean.
-use Rattle.std.proofs.Common.{◌≡◌, ◌⊎◌, ℕ, List, [], length, take, Option, Some, None, Result, Ok, Err, refl, sym, ap, ◌∙◌, subst, inl, inr, arith, append-nil}
+use Rattle.std.proofs.Common.{◌≡◌, ◌⊎◌, ℕ, List, [], ◌∷◌, length, take, Option, Some, None, Result, Ok, Err, refl, sym, ap, ◌∙◌, subst, inl, inr, arith, append-nil}
 use Rattle.std.specs.Prelude.{IfSome, IfErr}
 use Rattle.std.specs.Option.{option_map}
 use Rattle.std.proofs.lemmas.List.{take_all}
@@ -8,15 +8,15 @@ use Rattle.counters.specs.Counts.{Rose}
 use Rattle.keyroom.specs.declared.status.Status.{Status}
 use Rattle.keyroom.specs.declared.status.Status.TheVariants as answer
 use Rattle.keyroom.specs.declared.plan.Plan.{Plan}
-use Rattle.keyroom.specs.Causes.{Cause, Done, Refusal, Shelf, Entropy, Crew, Sink, Memory, cause_of, IsOfPlan, IsFromPlan}
+use Rattle.keyroom.specs.Causes.{Cause, Done, Refusal, Shelf, Entropy, Crew, Sink, Memory, cause_of, IsFromPlan}
 use Rattle.keyroom.specs.Outcome.{Outcome, refused}
-use Rattle.keyroom.specs.Changes.{outcome_of}
 use Rattle.keyroom.specs.Answer.{IsChanged, IsTold, Carries, Plans}
 use Rattle.keyroom.specs.Words.{Command, ReadsAs, IsUsage}
-use Rattle.committee.specs.Late.{refused_after}
-use Rattle.committee.specs.Answer.{World, Took, TookAsked, TookAll, StopsBefore, PlansWith, CarriedOut, IsUntouched, DoesBy, Does, IsWhole, Completes, Writes}
-use Rattle.committee.specs.Meaning.{Given, MeansSome, Means, TakesSeeds, AskForSeeds}
-use Rattle.committee.specs.Agreement.{MadeAll}
+use Rattle.commands.specs.Late.{refused_after}
+use Rattle.committee.specs.Answer.{World, CarriedOut, IsUntouched, DoesBy, Does, IsWhole, Completes, Writes, MadeAll}
+use Rattle.commands.specs.Planning.{UnderSome, Took, StopsBefore, PlansWith}
+use Rattle.committee.specs.Meaning.{Given, MeansCommand, MeansSome, Means, TakesSeeds, AskForSeeds}
+use Rattle.commands.proofs.Planning.{asked_weaker, all_weaker, plans_weaker, took_none, stops_asking}
 
 pub if_told : {A : Type 0} {P Q : A → Type 0} (o : Option A) → ((m : A) → P m → Q m) → IfSome o P → IfSome o Q
 if_told None f h = tt
@@ -41,12 +41,6 @@ module _ (means : Outcome → Type 0) (asks : ℕ → Type 0) (before after : Wo
   does_then mid status same carried = does status (cause_of status) (subst (λ h. Carries o.changes o.text h after.held before.told after.told (cause_of status)) same carried)
 
 -- ---- what was done of one meaning was done of a weaker one
-asked_weaker : (asks may : ℕ → Type 0) → ((count : ℕ) → asks count → may count) → (coming comes : Option (List (List ℕ))) → TookAsked asks coming comes → TookAsked may coming comes
-asked_weaker asks may ask coming comes (count, is, took) = (count, ask count is, took)
-
-all_weaker : (asks may : ℕ → Type 0) → ((count : ℕ) → asks count → may count) → (coming comes : Option (List (List ℕ))) → TookAll asks coming comes → TookAll may coming comes
-all_weaker asks may ask coming comes (count, is, took) = (count, ask count is, took)
-
 module _ (means on : Outcome → Type 0) (asks may : ℕ → Type 0) (weaker : (o : Outcome) → means o → on o) (ask : (count : ℕ) → asks count → may count) where
   carried_of : (before after : World) (cause : Cause) → (o : Outcome) × CarriedOut means before after cause o → (o : Outcome) × CarriedOut on before after cause o
   carried_of before after cause (o, c) = (o, record { meant = weaker o c.meant; planned = c.planned; carried = c.carried; took = c.took })
@@ -66,36 +60,7 @@ module _ (means on : Outcome → Type 0) (asks may : ℕ → Type 0) (weaker : (
   pub does_weaker : (before after : World) (status : Status) → Does means asks before after status → Does on may before after status
   does_weaker before after status d = does_by_weaker before after status (cause_of status) d
 
-  stops_weaker : (coming comes : Option (List (List ℕ))) (status : Status) (cause : Cause) → StopsBefore means asks coming comes status cause → StopsBefore on may coming comes status cause
-  stops_weaker coming comes status Done h = absurd h
-  stops_weaker coming comes status Refusal h = (h.0, weaker (refused_after h.0 status) h.1, h.2)
-  stops_weaker coming comes status Shelf h = h
-  stops_weaker coming comes status Entropy h = asked_weaker asks may ask coming comes h
-  stops_weaker coming comes status Crew h = all_weaker asks may ask coming comes h
-  stops_weaker coming comes status Sink h = absurd h
-  stops_weaker coming comes status Memory (inl same) = inl same
-  stops_weaker coming comes status Memory (inr some) = inr (asked_weaker asks may ask coming comes some)
-
-  pub plans_weaker : (coming comes : Option (List (List ℕ))) (r : Result Plan Status) → PlansWith means asks coming comes r → PlansWith on may coming comes r
-  plans_weaker coming comes (Ok plan) h = (h.0, weaker (outcome_of h.0 plan) h.1, h.2)
-  plans_weaker coming comes (Err status) h = stops_weaker coming comes status (cause_of status) h
-
 -- ---- a plan that takes no seeds
-pub took_none : (coming : Option (List (List ℕ))) → Took 0 coming coming
-took_none None = record { there = tt; gone = refl }
-took_none (Some seeds) = record { there = omega arith; gone = refl }
-
--- a step that takes none refused
-pub stops_asking : (means : Outcome → Type 0) (asks : ℕ → Type 0) (coming comes : Option (List (List ℕ))) (status : Status) (cause : Cause) → cause_of status ≡ cause → IsOfPlan cause → comes ≡ coming →
-    (cause_of status ≡ Refusal → means (refused status)) → StopsBefore means asks coming comes status cause
-stops_asking means asks coming comes status Done e by same h = absurd by
-stops_asking means asks coming comes status Refusal e by same h = (0, h e, subst (Took 0 coming) (sym same) (took_none coming))
-stops_asking means asks coming comes status Shelf e by same h = same
-stops_asking means asks coming comes status Entropy e by same h = absurd by
-stops_asking means asks coming comes status Crew e by same h = absurd by
-stops_asking means asks coming comes status Sink e by same h = absurd by
-stops_asking means asks coming comes status Memory e by same h = inl same
-
 -- of a command that is the same under all masks
 plans_with : (means : Outcome → Type 0) (asks : ℕ → Type 0) (coming : Option (List (List ℕ))) (before now : ℕ) (r : Result Plan Status) → IfErr r (λ s. IsFromPlan before now s) → Plans means r →
     PlansWith (λ o. (masks : List (List ℕ)) × means o) asks coming coming r
@@ -108,6 +73,16 @@ plans_told M asks held coming before now r from h =
     if_told {P = λ m. Plans (M m) r} {Q = λ m. PlansWith (λ o. (masks : List (List ℕ)) × M m o) (asks m) coming coming r} held (λ m. plans_with (M m) (asks m) coming before now r from) h
 
 -- ---- a plan is for what the words mean
+-- what a command's phase means under some masks the command means under some
+pub phase_told : (command : Command) (means : Held → List ℕ → Outcome → Type 0) (held : Option Held) (coming comes : Option (List (List ℕ))) (cuts : ℕ → ℕ) (r : Result Plan Status) →
+    ((m : Held) (masks : List ℕ) (o : Outcome) → means m masks o → MeansCommand command (record { held = m; coming = coming; cuts = cuts }) (masks ∷ []) o) →
+    IfSome held (λ m. PlansWith (UnderSome (means m)) (TakesSeeds command m) coming comes r) →
+    IfSome held (λ m. PlansWith (MeansSome command (record { held = m; coming = coming; cuts = cuts })) (TakesSeeds command m) coming comes r)
+phase_told command means held coming comes cuts r same h =
+    if_told {P = λ m. PlansWith (UnderSome (means m)) (TakesSeeds command m) coming comes r} {Q = λ m. PlansWith (MeansSome command (record { held = m; coming = coming; cuts = cuts })) (TakesSeeds command m) coming comes r} held
+    (λ m. plans_weaker (UnderSome (means m)) (MeansSome command (record { held = m; coming = coming; cuts = cuts })) (TakesSeeds command m) (TakesSeeds command m)
+    (λ o under. (under.0 ∷ [], same m under.0 o under.1)) (λ count takes. takes) coming comes r) h
+
 pub read_under : (words : List (List ℕ)) (given : Given) (command : Command) (o : Outcome) → ReadsAs words command → MeansSome command given o → Means words given o
 read_under words given command o reads h = (h.0, inr (command, reads, h.1))
 

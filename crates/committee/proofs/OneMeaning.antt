@@ -27,16 +27,16 @@ use Rattle.keyroom.proofs.Spelling.{same_command}
 use Rattle.keyroom.proofs.Honest.{one_key, honest_end}
 use Rattle.keyroom.proofs.Checking.{one_check, honest_states}
 use Rattle.keyroom.proofs.Working.{one_work, honest_work}
-use Rattle.committee.specs.Create.{Creates, create_asked, create_end, play_created}
-use Rattle.committee.specs.Standing.{Standing, seeds_for}
-use Rattle.committee.specs.Refresh.{Refreshes, refresh_asked, refresh_end, play_refreshed}
-use Rattle.committee.specs.Move.{move_asked, play_moved, move_outcome, enough_moved, EndsOpened, ThenAfter, EndsMove, Moves}
-use Rattle.committee.specs.Late.{refused_after}
+use Rattle.commands.specs.Create.{Creates, create_asked, create_end, play_created}
+use Rattle.commands.specs.Standing.{Standing, seeds_for}
+use Rattle.commands.specs.Refresh.{Refreshes, refresh_asked, refresh_end, play_refreshed}
+use Rattle.commands.specs.Move.{move_asked, play_moved, move_outcome, enough_moved, EndsOpened, ThenAfter, EndsMove, Moves}
+use Rattle.commands.specs.Late.{refused_after}
 use Rattle.committee.specs.Meaning.{Given, of_phase, MeansCommand, MeansSome, MeansUnder, Means, TakesSeeds, ComeToPhase}
 use Rattle.committee.specs.Recovery.{document_command}
-use Rattle.committee.proofs.Left.{both_left}
-use Rattle.committee.proofs.Movers.{CanMove, proper_move, can_asked}
-use Rattle.committee.proofs.Outs.{one_errors}
+use Rattle.commands.proofs.Left.{both_left}
+use Rattle.commands.proofs.Movers.{CanMove, proper_move, can_asked}
+use Rattle.commands.proofs.Outs.{one_errors}
 
 one_recover : (name : List ℕ) (held : Held) (a b : Outcome) → MeansRecover name held a → MeansRecover name held b → a ≡ b
 one_recover name held a b p q = p.2 ∙ ap recover_outcome (one_key name held p.0 q.0 p.1 q.1) ∙ sym q.2

@@ -17,8 +17,8 @@ use Rattle.members.proofs.Sums.{plain_shares}
 use Rattle.drillbook.specs.declared.order.Order.{Order}
 use Rattle.drillbook.specs.Orders.{names}
 use Rattle.talk.specs.Shape.{create_shape}
-use Rattle.committee.specs.Links.{first_link, first_now}
-use Rattle.committee.specs.Drill.{drill_of}
+use Rattle.commands.specs.Links.{first_link, first_now}
+use Rattle.commands.specs.Drill.{drill_of}
 use Rattle.keyroom.specs.declared.status.Status.{Status}
 use Rattle.keyroom.specs.Causes.{cause_of}
 use Rattle.keyroom.specs.Words.{Create, IsInRange, ReadsAs}
@@ -26,18 +26,18 @@ use Rattle.keyroom.specs.Names.{now_name}
 use Rattle.keyroom.specs.Outcome.{Outcome, AreFirst}
 use Rattle.keyroom.specs.Steps.{free_of}
 use Rattle.keyroom.proofs.Working.{and_then_ok}
-use Rattle.committee.specs.Create.{AreCreateMasks, dealt_by, play_created, create_changes, create_outcome, grids_on}
-use Rattle.committee.specs.Late.{down_after}
+use Rattle.commands.specs.Create.{AreCreateMasks, dealt_by, play_created, create_changes, create_outcome, grids_on}
+use Rattle.commands.specs.Late.{down_after}
 use Rattle.committee.specs.Plain.{plain_share, HeldPlain}
 use Rattle.committee.specs.Answer.{Does}
 use Rattle.committee.specs.Meaning.{Given, Means, AskForSeeds}
-use Rattle.committee.specs.Agreement.{MadeAll}
-use Rattle.committee.proofs.Agreement.{lane_at, put_created, held_created}
-use Rattle.committee.proofs.Committees.{committee_of}
-use Rattle.committee.proofs.Creating.{WasCreated, done_created}
-use Rattle.committee.proofs.Created.{proper_create, create_late}
-use Rattle.committee.proofs.Late.{up_after, each_uncut}
-use Rattle.committee.proofs.Links.{first_is_now}
+use Rattle.committee.specs.Answer.{MadeAll}
+use Rattle.commands.proofs.Agreement.{lane_at, put_created, held_created}
+use Rattle.commands.proofs.Committees.{committee_of}
+use Rattle.commands.proofs.Creating.{WasCreated, done_created}
+use Rattle.commands.proofs.Created.{proper_create, create_late}
+use Rattle.commands.proofs.Late.{up_after, each_uncut}
+use Rattle.commands.proofs.Links.{first_is_now}
 use Rattle.committee.proofs.OneMeaning.{meant_of}
 use Rattle.committee.proofs.Doing.{made_all}
 

@@ -22,7 +22,7 @@ use Rattle.keyroom.specs.Texts.{recover_text, check_text}
 use Rattle.keyroom.specs.Answer.{Carries}
 use Rattle.keyroom.proofs.Spelling.{same_command}
 use Rattle.keyroom.proofs.Working.{work_has_key}
-use Rattle.committee.specs.Late.{refused_after}
+use Rattle.commands.specs.Late.{refused_after}
 use Rattle.committee.specs.Answer.{World, CarriedOut, DoesBy, Does}
 use Rattle.committee.specs.Meaning.{Given, Means, TakesSeeds, AskForSeeds}
 use Rattle.committee.specs.Recovery.{EndsInText, AsksNone, Honestly, document_command}

@@ -1,54 +1,19 @@
 -- What the top call leaves: all of what the words mean, or a part of it where the outside or memory failed.
-use Rattle.std.specs.Prelude.{◌≡◌, ◌≤◌, ◌⊎◌, ℕ, List, length, drop, Option, IfSome, Result, Ok, Err}
-use Rattle.std.specs.Option.{option_map}
+use Rattle.std.specs.Prelude.{◌≡◌, ◌⊎◌, ℕ, List, Option}
 use Rattle.shelf.specs.Held.{Held}
-use Rattle.keyroom.specs.declared.plan.Plan.{Plan}
 use Rattle.keyroom.specs.declared.status.Status.{Status}
 use Rattle.keyroom.specs.declared.status.Status.TheVariants as answer
 use Rattle.keyroom.specs.Causes.{Cause, Done, Refusal, Shelf, Entropy, Crew, Sink, Memory, cause_of}
 use Rattle.keyroom.specs.Outcome.{Outcome}
-use Rattle.keyroom.specs.Changes.{outcome_of}
 use Rattle.keyroom.specs.Answer.{IsChanged, IsTold, Carries}
-use Rattle.committee.specs.Late.{refused_after}
+use Rattle.commands.specs.Late.{refused_after}
+use Rattle.commands.specs.Planning.{Took, TookAsked, TookAll}
 
 -- the outside: what the shelf holds, the seeds to come, and what the sink was given, where they are told
 pub record World : Type 0 where
   pub held : Option Held
   pub coming : Option (List (List ℕ))
   pub told : Option (List ℕ)
-
--- so many seeds were taken, from the front, and no others
-pub record Took (taken : ℕ) (coming comes : Option (List (List ℕ))) : Type 0 where
-  pub there : IfSome coming (λ seeds. taken ≤ length seeds)
-  pub gone : comes ≡ option_map (drop taken) coming
-
--- at most so many
-abbrev pub TookUpTo : ℕ → Option (List (List ℕ)) → Option (List (List ℕ)) → Type 0
-TookUpTo count coming comes = (taken : ℕ) × (taken ≤ count) × Took taken coming comes
-
--- at most as many as are asked for, where `asks` says of which numbers that is so
-abbrev pub TookAsked : (ℕ → Type 0) → Option (List (List ℕ)) → Option (List (List ℕ)) → Type 0
-TookAsked asks coming comes = (count : ℕ) × asks count × TookUpTo count coming comes
-
--- exactly so many
-abbrev pub TookAll : (ℕ → Type 0) → Option (List (List ℕ)) → Option (List (List ℕ)) → Type 0
-TookAll asks coming comes = (count : ℕ) × asks count × Took count coming comes
-
--- What a refusal to make a plan leaves of the seeds to come, by its cause: a refusal is the one that is meant, with so many
--- seeds; a fault of the shelf takes none; a fault of the crew comes when all that are asked for were taken; a fault of the
--- entropy and want of memory may come when some were taken.
-abbrev pub StopsBefore : (Outcome → Type 0) → (ℕ → Type 0) → Option (List (List ℕ)) → Option (List (List ℕ)) → Status → Cause → Type 0
-StopsBefore means asks coming comes status Refusal = (taken : ℕ) × means (refused_after taken status) × Took taken coming comes
-StopsBefore means asks coming comes status Shelf = comes ≡ coming
-StopsBefore means asks coming comes status Entropy = TookAsked asks coming comes
-StopsBefore means asks coming comes status Crew = TookAll asks coming comes
-StopsBefore means asks coming comes status Memory = (comes ≡ coming) ⊎ TookAsked asks coming comes
-StopsBefore means asks coming comes status cause = ⊥
-
--- what a plan, or a refusal to make one, must be, with the seeds to come before and after it
-abbrev pub PlansWith : (Outcome → Type 0) → (ℕ → Type 0) → Option (List (List ℕ)) → Option (List (List ℕ)) → Result Plan Status → Type 0
-PlansWith means asks coming comes (Ok plan) = (taken : ℕ) × means (outcome_of taken plan) × Took taken coming comes
-PlansWith means asks coming comes (Err status) = StopsBefore means asks coming comes status (cause_of status)
 
 -- an outcome that is Done was carried out, as far as the cause of the answer says
 pub record CarriedOut (means : Outcome → Type 0) (before after : World) (cause : Cause) (outcome : Outcome) : Type 0 where
@@ -99,3 +64,9 @@ abbrev pub Writes : Option (List ℕ) → Option (List ℕ) → Cause → Type 0
 Writes told tells Done = (text : List ℕ) × IsTold text told tells
 Writes told tells Sink = (text : List ℕ) × IsTold text told tells
 Writes told tells cause = tells ≡ told
+
+-- the causes with which all changes were made
+abbrev pub MadeAll : Cause → Type 0
+MadeAll Done = Unit {0}
+MadeAll Sink = Unit {0}
+MadeAll cause = ⊥

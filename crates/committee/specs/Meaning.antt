@@ -1,8 +1,6 @@
 -- The meaning of a command: one equation for each.
-use Rattle.std.specs.Prelude.{◌≡◌, ◌⊎◌, ◌≤◌, ℕ, List, [], length, get_or, Option, Some, None, IfSome, Ok}
+use Rattle.std.specs.Prelude.{◌≡◌, ◌⊎◌, ℕ, List, [], get_or, Option, Ok}
 use Rattle.shelf.specs.Held.{Held}
-use Rattle.drillbook.specs.declared.order.Order.{Order}
-use Rattle.talk.specs.Shape.{create_shape}
 use Rattle.keyroom.specs.declared.status.Status.TheVariants.{Usage}
 use Rattle.keyroom.specs.declared.document.Direction.TheVariants.{Sealing, Opening}
 use Rattle.keyroom.specs.Words.{Command, Create, Refresh, Move, Recover, Check, Seal, Open, ReadsAs, IsUsage}
@@ -10,10 +8,11 @@ use Rattle.keyroom.specs.Outcome.{Outcome, refused}
 use Rattle.keyroom.specs.Recover.{MeansRecover}
 use Rattle.keyroom.specs.Check.{MeansCheck}
 use Rattle.keyroom.specs.Document.{MeansDocument}
-use Rattle.committee.specs.Create.{create_asked, MeansCreate}
-use Rattle.committee.specs.Standing.{Standing, seeds_for}
-use Rattle.committee.specs.Refresh.{refresh_asked, MeansRefresh}
-use Rattle.committee.specs.Move.{move_asked, MeansMove}
+use Rattle.commands.specs.Planning.{HasEnoughSeeds}
+use Rattle.commands.specs.Create.{CreateTakes, MeansCreate}
+use Rattle.commands.specs.Standing.{Standing, HasSoundNow}
+use Rattle.commands.specs.Refresh.{RefreshTakes, MeansRefresh}
+use Rattle.commands.specs.Move.{move_asked, MoveTakes, MeansMove}
 
 -- what a command is given: what the shelf holds, the seeds to come, where they are told, and who may have been cut in each
 -- round of its phase
@@ -50,13 +49,11 @@ MeansUnder masks words given outcome =
 abbrev pub Means : List (List ℕ) → Given → Outcome → Type 0
 Means words given outcome = (masks : List (List ℕ)) × MeansUnder masks words given outcome
 
--- A command comes to the step that takes seeds, and takes so many there: a create whose now file isn't held, and whose
--- drill, if one is named, is there and is read, takes one for each member; a refresh or a move that may go on takes
--- one for each valid share file.
+-- A command comes to the step that takes seeds, and takes so many there.
 abbrev pub TakesSeeds : Command → Held → ℕ → Type 0
-TakesSeeds (Create name n t drill) held count = (count ≡ n) × ((orders : List Order) × (create_asked name (create_shape n t) drill held ≡ Ok orders))
-TakesSeeds (Refresh name drill) held count = (st : Standing) × (refresh_asked name drill held ≡ Ok st) × (count ≡ seeds_for st)
-TakesSeeds (Move name m u drill) held count = (st : Standing) × (move_asked name m u drill held ≡ Ok st) × (count ≡ seeds_for st)
+TakesSeeds (Create name n t drill) held count = CreateTakes name n t drill held count
+TakesSeeds (Refresh name drill) held count = RefreshTakes name drill held count
+TakesSeeds (Move name m u drill) held count = MoveTakes name m u drill held count
 TakesSeeds (Recover name) held count = ⊥
 TakesSeeds (Check name) held count = ⊥
 TakesSeeds (Seal name doc target) held count = ⊥
@@ -79,8 +76,7 @@ most_seeds (Open name source target) = 0
 -- The seeds to come, where they are told, are enough for a command: for what it comes to take over what the shelf holds,
 -- or for whatever it may take, where the shelf doesn't tell.
 abbrev pub AreEnoughFor : Command → Option Held → Option (List (List ℕ)) → Type 0
-AreEnoughFor command None coming = IfSome coming (λ seeds. most_seeds command ≤ length seeds)
-AreEnoughFor command (Some held) coming = (count : ℕ) → TakesSeeds command held count → IfSome coming (λ seeds. count ≤ length seeds)
+AreEnoughFor command held coming = HasEnoughSeeds (most_seeds command) (TakesSeeds command) held coming
 
 -- they are enough for the command that the words are
 abbrev pub AreEnough : List (List ℕ) → Option Held → Option (List (List ℕ)) → Type 0
@@ -95,3 +91,13 @@ abbrev pub ComeToMove : List (List ℕ) → Held → Type 0
 ComeToMove words held =
     (name : List ℕ) × (m : ℕ) × (u : ℕ) × (drill : Option (List ℕ)) × ReadsAs words (Move name m u drill)
     × ((st : Standing) × (move_asked name m u drill held ≡ Ok st))
+
+-- what a shelf that was read tells of the now file of a refresh or a move
+abbrev pub ReadsNow : Command → Held → Type 0
+ReadsNow (Refresh name drill) held = HasSoundNow name held
+ReadsNow (Move name m u drill) held = HasSoundNow name held
+ReadsNow (Create name n t drill) held = Unit {0}
+ReadsNow (Recover name) held = Unit {0}
+ReadsNow (Check name) held = Unit {0}
+ReadsNow (Seal name doc target) held = Unit {0}
+ReadsNow (Open name source target) held = Unit {0}

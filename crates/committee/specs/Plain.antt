@@ -6,7 +6,7 @@ use Rattle.bivar61.specs.Sums.{sum_below}
 use Rattle.shelf.specs.Held.{Held}
 use Rattle.sharefile.specs.Files.{Now, Share}
 use Rattle.keyroom.specs.Steps.{HasShare}
-use Rattle.committee.specs.Create.{dealt_by, grids_on}
+use Rattle.commands.specs.Create.{dealt_by, grids_on}
 
 -- the sum over all n members of the value at 0 and j of the grid of a lane that the member draws from its seed
 abbrev pub plain_share : ℕ → ℕ → List (List ℕ) → ℕ → ℕ → Fp

@@ -1,5 +1,5 @@
 //! The call that the program makes.
-ghost use Rattle.std.specs.Prelude.{◌≡◌, ◌≢◌, ◌≤◌, ◌⊎◌, ◌↔◌, List, [], ℕ, length, take, Ok, None, IfSome, IsSome, IfOk, IfErr, Option};
+ghost use Rattle.std.specs.Prelude.{◌≡◌, ◌≢◌, ◌≤◌, ◌⊎◌, ◌↔◌, List, [], ℕ, take, Ok, None, IfSome, IsSome, IfOk, IfErr, Option};
 ghost use Rattle.algebra61.specs.Field.{Fp};
 ghost use Rattle.algebra61.specs.Polynomial.{Polynomial};
 ghost use Rattle.sharefile.specs.declared.link.Link.{Link};
@@ -18,23 +18,23 @@ ghost use Rattle.keyroom.specs.Recover.{recovered_by};
 ghost use Rattle.keyroom.specs.Texts.{recover_text};
 ghost use Rattle.keyroom.specs.Work.{KeyIsOf};
 ghost use Rattle.keyroom.specs.Document.{DocumentCommandBy};
-ghost use Rattle.committee.specs.Late.{cuts_since};
-ghost use Rattle.committee.specs.Links.{first_now};
-ghost use Rattle.committee.specs.Meaning.{Given, MeansSome, MeansUnder, Means, TakesSeeds, AskForSeeds, AreEnoughFor, AreEnough, ComeToPhase};
-ghost use Rattle.committee.specs.Uncut.{IsUncut, LateInCreate, LateInRefresh, UncutCreatesAreDone, UncutRefreshesAreDone, UncutHaveOneStatus};
-ghost use Rattle.committee.specs.Agreement.{HeldOnOneLine, NewOnOneLine, CreatesOnOneLine, MadeAll};
+ghost use Rattle.commands.specs.Late.{cuts_in};
+ghost use Rattle.commands.specs.Links.{first_now};
+ghost use Rattle.committee.specs.Meaning.{Given, MeansSome, MeansUnder, Means, TakesSeeds, AskForSeeds, AreEnoughFor, AreEnough, ComeToPhase, ReadsNow};
+ghost use Rattle.commands.specs.Uncut.{IsUncut};
+ghost use Rattle.committee.specs.Uncut.{UncutHaveOneStatus};
+ghost use Rattle.commands.specs.Agreement.{HeldOnOneLine, NewOnOneLine};
+ghost use Rattle.committee.specs.Answer.{MadeAll, Does, Completes, Writes};
 ghost use Rattle.committee.specs.Plain.{HeldPlain};
-ghost use Rattle.committee.specs.Begins.{PeriodsGoOn};
-ghost use Rattle.committee.specs.Kept.{IsRefreshed, IsKept, ReadsNow, RefreshesByOne, RefreshesKeepTheKey};
-ghost use Rattle.committee.specs.Moved.{IsMoved, IsCarriedOn, LacksWord, MovesCarryPolynomials, MovesNameTheirLane, SoundMovesHaveWords, MovesKeepTheKey};
+ghost use Rattle.commands.specs.Kept.{IsRefreshed, IsKept};
+ghost use Rattle.commands.specs.Moved.{IsMoved, IsCarriedOn, LacksWord};
 ghost use Rattle.committee.specs.Recovery.{Honestly, document_command};
-ghost use Rattle.committee.specs.Answer.{PlansWith, Does, Completes, Writes};
-ghost use Rattle.committee.specs.Causes.{before_text, IsCounted, IsFromCommand};
-ghost use Rattle.committee.specs.Crews.{Lent, AllAttended, AllAttendedFor};
+ghost use Rattle.commands.specs.Planning.{PlansWith};
+ghost use Rattle.commands.specs.Causes.{before_text, IsCounted, IsFromCommand};
+ghost use Rattle.commands.specs.Crews.{Lent};
+ghost use Rattle.committee.specs.Crews.{AllAttended, AllAttendedFor};
 
-use crate::create::plan_create;
-use crate::moving::plan_move;
-use crate::refresh::plan_refresh;
+use commands::{plan_create, plan_move, plan_refresh};
 use keyroom::{
     Command, Direction, Plan, Status, carry_out, plan_check, plan_document, plan_recover,
     read_words,
@@ -58,7 +58,7 @@ fn plan<H: Shelf, E: Entropy, C: Crew, Q: Pace + Send, R: Threads + Wait + Sync>
     requires { IsInRange (command_of command.now) }
     ensures reads { OnlyReads H.held H.fault_count H.calm shelf.old shelf.new }
     ensures meaning { IfSome (H.held shelf.old) (λ m.
-        PlansWith (MeansSome (command_of command.now) (record { held = m; coming = E.coming entropy.old; cuts = cuts_since (Q.answered_count pace.old) (Q.answered_count pace.new) (Q.cuts_of pace.new) }))
+        PlansWith (MeansSome (command_of command.now) (record { held = m; coming = E.coming entropy.old; cuts = cuts_in Q.answered_count Q.cuts_of pace.old pace.new }))
         (TakesSeeds (command_of command.now) m) (E.coming entropy.old) (E.coming entropy.new) result) }
     ensures later { E.fault_count entropy.old ≤ E.fault_count entropy.new }
     ensures cause { IfErr result (IsFromCommand (before_text (H.fault_count shelf.old) (E.fault_count entropy.old) (C.fault_count crew.old)) (before_text (H.fault_count shelf.new) (E.fault_count entropy.new) (C.fault_count crew.new))) }
@@ -125,12 +125,12 @@ pub fn run<H: Shelf, E: Entropy, C: Crew, Q: Pace + Send, K: Sink, R: Threads + 
 ) -> Status
     // What the words mean is done, or a part of it where the outside or memory fails.
     ensures meaning { IfSome (H.held shelf.old) (λ m.
-        Does (Means (texts words.now) (record { held = m; coming = E.coming entropy.old; cuts = cuts_since (Q.answered_count pace.old) (Q.answered_count pace.new) (Q.cuts_of pace.new) })) (AskForSeeds (texts words.now) m)
+        Does (Means (texts words.now) (record { held = m; coming = E.coming entropy.old; cuts = cuts_in Q.answered_count Q.cuts_of pace.old pace.new })) (AskForSeeds (texts words.now) m)
         (record { held = H.held shelf.old; coming = E.coming entropy.old; told = K.told out.old })
         (record { held = H.held shelf.new; coming = E.coming entropy.new; told = K.told out.new }) result) }
     // Over what is calm, with enough seeds to come, it is done whole, unless memory ran out.
     ensures complete { IfSome (H.held shelf.old) (λ m. H.calm shelf.old → E.calm entropy.old → C.calm crew.old → K.calm out.old → AreEnough (texts words.now) (H.held shelf.old) (E.coming entropy.old) →
-        Completes (Means (texts words.now) (record { held = m; coming = E.coming entropy.old; cuts = cuts_since (Q.answered_count pace.old) (Q.answered_count pace.new) (Q.cuts_of pace.new) }))
+        Completes (Means (texts words.now) (record { held = m; coming = E.coming entropy.old; cuts = cuts_in Q.answered_count Q.cuts_of pace.old pace.new }))
         (record { held = H.held shelf.old; coming = E.coming entropy.old; told = K.told out.old })
         (record { held = H.held shelf.new; coming = E.coming entropy.new; told = K.told out.new }) result) }
     // After a create the share files of the key lie, in each lane, on one polynomial of degree at most T, whatever the
@@ -142,7 +142,7 @@ pub fn run<H: Shelf, E: Entropy, C: Crew, Q: Pace + Send, K: Sink, R: Threads + 
         (name : List ℕ) (n t : ℕ) (drill : Option (List ℕ)) → ReadsAs (texts words.now) (Create name n t drill) → (link : Option Link) → NewOnOneLine (first_now name n t link) old m)) }
     // Without a drill, and where nobody was cut, each share is the sum over all members of what the grids that they draw from
     // their seeds say.
-    ensures plain { MadeAll (cause_of result) → IsUncut (cuts_since (Q.answered_count pace.old) (Q.answered_count pace.new) (Q.cuts_of pace.new)) → IfSome (H.held shelf.old) (λ old. IfSome (H.held shelf.new) (λ m. IfSome (E.coming entropy.old) (λ seeds.
+    ensures plain { MadeAll (cause_of result) → IsUncut (cuts_in Q.answered_count Q.cuts_of pace.old pace.new) → IfSome (H.held shelf.old) (λ old. IfSome (H.held shelf.new) (λ m. IfSome (E.coming entropy.old) (λ seeds.
         (name : List ℕ) (n t : ℕ) → ReadsAs (texts words.now) (Create name n t None) → (link : Option Link) → HeldPlain (first_now name n t link) (take n seeds) m))) }
     // After a refresh each new share is the old one plus, in each lane, the value of one polynomial times the member's
     // index, whatever the drilled members said.
@@ -153,21 +153,21 @@ pub fn run<H: Shelf, E: Entropy, C: Crew, Q: Pace + Send, K: Sink, R: Threads + 
     // of degree at most T.
     ensures kept { IfSome (H.held shelf.old) (λ old. IfSome (H.held shelf.new) (λ m.
         (name : List ℕ) (drill : Option (List ℕ)) (before : Now) → ReadsAs (texts words.now) (Refresh name drill) →
-        (masks : List ℕ) × IsKept name drill before (E.coming entropy.old) (cuts_since (Q.answered_count pace.old) (Q.answered_count pace.new) (Q.cuts_of pace.new)) masks old m)) }
+        (masks : List ℕ) × IsKept name drill before (E.coming entropy.old) (cuts_in Q.answered_count Q.cuts_of pace.old pace.new) masks old m)) }
     // After a move the new share files lie, in each lane, on one polynomial. Its value at 0 is that of each polynomial that is
     // near to what the old members shared, and one is, whatever the drilled and the late members of both committees said.
     ensures moved { MadeAll (cause_of result) → IfSome (H.held shelf.old) (λ old. IfSome (H.held shelf.new) (λ m.
         (name : List ℕ) (size bound : ℕ) (drill : Option (List ℕ)) (before : Now) → ReadsAs (texts words.now) (Move name size bound drill) → now_of name old ≡ Ok before →
-        (masks : List ℕ) × IsMoved name size bound drill before (E.coming entropy.old) (cuts_since (Q.answered_count pace.old) (Q.answered_count pace.new) (Q.cuts_of pace.new)) masks old m)) }
+        (masks : List ℕ) × IsMoved name size bound drill before (E.coming entropy.old) (cuts_in Q.answered_count Q.cuts_of pace.old pace.new) masks old m)) }
     // NoWord names the least lane in which no polynomial is near to what the old members shared. It is never answered where N - T
     // members that are neither drilled nor late under the masks of the phase have shares on polynomials of degree at most T.
     ensures no_word { IfSome (H.held shelf.old) (λ m. (name : List ℕ) (size bound : ℕ) (drill : Option (List ℕ)) (lane : ℕ) (syndrome : List Fp) →
         ReadsAs (texts words.now) (Move name size bound drill) → result ≡ NoWord lane syndrome →
-        (masks : List ℕ) × LacksWord name size bound drill (E.coming entropy.old) (cuts_since (Q.answered_count pace.old) (Q.answered_count pace.new) (Q.cuts_of pace.new)) masks m lane syndrome) }
+        (masks : List ℕ) × LacksWord name size bound drill (E.coming entropy.old) (cuts_in Q.answered_count Q.cuts_of pace.old pace.new) masks m lane syndrome) }
     // A move leaves what stood, or makes a part of its changes, and the key stays as in a refresh.
     ensures carried { IfSome (H.held shelf.old) (λ old. IfSome (H.held shelf.new) (λ m.
         (name : List ℕ) (size bound : ℕ) (drill : Option (List ℕ)) (before : Now) → ReadsAs (texts words.now) (Move name size bound drill) →
-        (masks : List ℕ) × IsCarriedOn name size bound drill before (E.coming entropy.old) (cuts_since (Q.answered_count pace.old) (Q.answered_count pace.new) (Q.cuts_of pace.new)) masks old m)) }
+        (masks : List ℕ) × IsCarriedOn name size bound drill before (E.coming entropy.old) (cuts_in Q.answered_count Q.cuts_of pace.old pace.new) masks old m)) }
     // Any N - T honest share files are enough, whatever the other files are: the key that is recovered, under which a
     // document is sealed or opened, is what they say, and so are the members' states.
     ensures honest { IfSome (H.held shelf.old) (λ m. (name : List ℕ) (now : Now) (polys : List Polynomial) → HonestFiles name now m polys →
@@ -216,73 +216,10 @@ pub fn one_status_where_nobody_is_cut()
     ensures { UncutHaveOneStatus }
 {}
 
-/// A seat that is late was cut in some round of the phase.
-pub fn who_is_late_was_cut()
-    ensures create { LateInCreate }
-    ensures refresh { LateInRefresh }
-{}
-
-/// Where nobody is cut nobody is late, so a create or a refresh that comes to its phase is done: `TooFewSound` comes behind
-/// the phase only where members were cut.
-pub fn nobody_is_late_uncut()
-    ensures create { UncutCreatesAreDone }
-    ensures refresh { UncutRefreshesAreDone }
-{}
-
 /// What the words and the outside mean under the masks of the rounds of all phases is one outcome, where the seeds to come
 /// are told.
 pub fn one_meaning()
     ensures { (words : List (List ℕ)) (given : Given) (masks : List (List ℕ)) (a b : Outcome) → IsSome given.coming → MeansUnder masks words given a → MeansUnder masks words given b → a ≡ b }
-{}
-
-/// The share files that a create puts, whatever its drilled members say, lie in each lane on one polynomial of degree at
-/// most T, where they are valid share files of the key.
-pub fn created_share_files_lie_on_one_polynomial()
-    ensures { CreatesOnOneLine }
-{}
-
-/// A next period begins with one change, the put of its now file: up to there the now file and the share files that stood
-/// are left, and from there on the share files of the new period are there, and nothing touches them.
-pub fn a_next_period_begins_with_one_change()
-    ensures { PeriodsGoOn }
-{}
-
-/// A refresh adds shares of 0: in each lane there is one polynomial h of degree at most T - 1 such that the new share of
-/// each member j that gets a share file is its old one plus j times h (j), whatever the drilled members say.
-pub fn a_refresh_adds_shares_of_zero()
-    ensures { RefreshesByOne }
-{}
-
-/// A refresh keeps the key: where N - T members that are neither drilled nor late have valid share files that lie on polynomials
-/// of degree at most T, so do N - T members' after each part of its changes from the front, and the values at 0 are the same.
-pub fn a_refresh_keeps_the_key()
-    ensures { RefreshesKeepTheKey }
-{}
-
-/// A move carries polynomials: in each lane some polynomial of degree at most T differs from what the old members shared at
-/// no more than T of them, and for each that does the new share files lie on one polynomial of degree at most U with the
-/// same value at 0. What a member with a valid share file shared is its share, where no order names it and it isn't late.
-pub fn a_move_carries_polynomials()
-    ensures { MovesCarryPolynomials }
-{}
-
-/// A move that is refused for want of an error vector names the least lane in which no polynomial is so near to what was
-/// shared, with the syndrome of that.
-pub fn a_move_without_a_word_names_its_lane()
-    ensures { MovesNameTheirLane }
-{}
-
-/// No move is so refused where N - T members that are neither drilled nor late have valid share files that lie on polynomials
-/// of degree at most T.
-pub fn a_move_of_sound_files_has_a_word()
-    ensures { SoundMovesHaveWords }
-{}
-
-/// A move keeps the key: where N - T members that are neither drilled nor late have valid share files that lie on polynomials of
-/// degree at most T, the valid share files of the committee whose now file is held lie on polynomials with the same values at 0,
-/// all but T or U of them, after each part of the changes from the front.
-pub fn a_move_keeps_the_key()
-    ensures { MovesKeepTheKey }
 {}
 
 /// Any N - T honest share files are enough: where N - T valid share files lie on polynomials of degree at most T,

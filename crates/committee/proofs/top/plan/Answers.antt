@@ -2,16 +2,33 @@ use Rattle.keyroom.specs.declared.document.Direction.TheVariants.{Sealing, Openi
 use Rattle.keyroom.specs.Recover.{MeansRecover}
 use Rattle.keyroom.specs.Check.{MeansCheck}
 use Rattle.keyroom.specs.Document.{MeansDocument}
-use Rattle.keyroom.specs.Words.{Recover, Check, Seal, Open}
+use Rattle.keyroom.specs.Commands.{text_of}
+use Rattle.keyroom.specs.Words.{Create, Refresh, Move, Recover, Check, Seal, Open}
+use Rattle.commands.specs.Create.{MeansCreate}
+use Rattle.commands.specs.Late.{cuts_in}
+use Rattle.commands.specs.Move.{MeansMove}
+use Rattle.commands.specs.Refresh.{MeansRefresh}
 use Rattle.committee.specs.Meaning.{TakesSeeds}
-use Rattle.committee.proofs.Doing.{plans_told}
+use Rattle.committee.proofs.Doing.{phase_told, plans_told}
 use Rattle.committee.proofs.top.plan.Goals as goal
 
 pub returns-in-Create-clause-meaning : goal.returns-in-Create-clause-meaning
-returns-in-Create-clause-meaning g c = rw c.in-Create.is c.plan_create.ensures.meaning
+returns-in-Create-clause-meaning g c =
+    rw c.in-Create.is (phase_told (Create c.in-Create.name c.in-Create.committee.members c.in-Create.committee.bound (text_of c.in-Create.drill))
+    (λ m. MeansCreate c.in-Create.name c.in-Create.committee.members c.in-Create.committee.bound (text_of c.in-Create.drill) m (g.E.Entropy.coming c.args.entropy.now) (cuts_in g.Q.Pace.answered_count g.Q.Pace.cuts_of c.args.pace.now c.plan_create.new.pace))
+    (g.H.Shelf.held c.args.shelf.now) _ _ _ c.plan_create.result (λ m masks o means. means) c.plan_create.ensures.meaning)
 
 pub returns-in-Refresh-clause-meaning : goal.returns-in-Refresh-clause-meaning
-returns-in-Refresh-clause-meaning g c = rw c.in-Refresh.is c.plan_refresh.ensures.meaning
+returns-in-Refresh-clause-meaning g c =
+    rw c.in-Refresh.is (phase_told (Refresh c.in-Refresh.name (text_of c.in-Refresh.drill))
+    (λ m. MeansRefresh c.in-Refresh.name (text_of c.in-Refresh.drill) m (g.E.Entropy.coming c.args.entropy.now) (cuts_in g.Q.Pace.answered_count g.Q.Pace.cuts_of c.args.pace.now c.plan_refresh.new.pace))
+    (g.H.Shelf.held c.args.shelf.now) _ _ _ c.plan_refresh.result (λ m masks o means. means) c.plan_refresh.ensures.meaning)
+
+pub returns-in-Move-clause-meaning : goal.returns-in-Move-clause-meaning
+returns-in-Move-clause-meaning g c =
+    rw c.in-Move.is (phase_told (Move c.in-Move.name c.in-Move.committee.members c.in-Move.committee.bound (text_of c.in-Move.drill))
+    (λ m. MeansMove c.in-Move.name c.in-Move.committee.members c.in-Move.committee.bound (text_of c.in-Move.drill) m (g.E.Entropy.coming c.args.entropy.now) (cuts_in g.Q.Pace.answered_count g.Q.Pace.cuts_of c.args.pace.now c.plan_move.new.pace))
+    (g.H.Shelf.held c.args.shelf.now) _ _ _ c.plan_move.result (λ m masks o means. means) c.plan_move.ensures.meaning)
 
 pub returns-in-Recover-clause-meaning : goal.returns-in-Recover-clause-meaning
 returns-in-Recover-clause-meaning g c =

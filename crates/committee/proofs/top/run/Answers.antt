@@ -3,14 +3,14 @@ use Rattle.keyroom.specs.Words.{texts}
 use Rattle.keyroom.specs.Commands.{command_of}
 use Rattle.keyroom.specs.Changes.{changes_of, outcome_of}
 use Rattle.std.specs.Prelude.{string_bytes}
-use Rattle.committee.specs.Late.{cuts_since}
+use Rattle.commands.specs.Late.{cuts_in}
 use Rattle.committee.specs.Meaning.{Means, AskForSeeds}
 use Rattle.committee.proofs.Doing.{if_told, does_then, read_under, refused_does, completes, written, never_rose, carries_no_entropy, carries_no_crew, usage_does, usage_whole}
 use Rattle.committee.proofs.Attending.{attended_for}
-use Rattle.committee.proofs.Creating.{run_on_one_line, run_stopped}
+use Rattle.committee.proofs.CreateClauses.{run_on_one_line, run_stopped}
 use Rattle.committee.proofs.Plain.{run_plain}
-use Rattle.committee.proofs.Kept.{run_by_one, run_keeps_the_key, unchanged_keeps}
-use Rattle.committee.proofs.MoveLaws.{run_moved, run_lacks_word, run_carried, unchanged_carried}
+use Rattle.committee.proofs.RefreshClauses.{run_by_one, run_keeps_the_key, unchanged_keeps}
+use Rattle.committee.proofs.MoveClauses.{run_moved, run_lacks_word, run_carried, unchanged_carried}
 use Rattle.committee.proofs.Recovery.{run_honestly, no_command}
 use Rattle.committee.proofs.top.run.Goals as goal
 
@@ -18,10 +18,10 @@ pub returns-in-Ok-clause-meaning : goal.returns-in-Ok-clause-meaning
 returns-in-Ok-clause-meaning g c =
     if_told (g.H.Shelf.held c.args.shelf.now)
     (λ m plans. does_then
-    (Means (texts c.args.words.now) (record { held = m; coming = g.E.Entropy.coming c.args.entropy.now; cuts = cuts_since (g.Q.Pace.answered_count c.args.pace.now) (g.Q.Pace.answered_count c.plan.new.pace) (g.Q.Pace.cuts_of c.plan.new.pace) })) (AskForSeeds (texts c.args.words.now) m)
+    (Means (texts c.args.words.now) (record { held = m; coming = g.E.Entropy.coming c.args.entropy.now; cuts = cuts_in g.Q.Pace.answered_count g.Q.Pace.cuts_of c.args.pace.now c.plan.new.pace })) (AskForSeeds (texts c.args.words.now) m)
     (record { held = g.H.Shelf.held c.args.shelf.now; coming = g.E.Entropy.coming c.args.entropy.now; told = g.K.Sink.told c.args.out.now })
     (record { held = g.H.Shelf.held c.carry_out.new.shelf; coming = g.E.Entropy.coming c.plan.new.entropy; told = g.K.Sink.told c.carry_out.new.out })
-    (outcome_of plans.0 c.in-Ok.plan) (read_under (texts c.args.words.now) (record { held = m; coming = g.E.Entropy.coming c.args.entropy.now; cuts = cuts_since (g.Q.Pace.answered_count c.args.pace.now) (g.Q.Pace.answered_count c.plan.new.pace) (g.Q.Pace.cuts_of c.plan.new.pace) }) (command_of c.in-Some.command) (outcome_of plans.0 c.in-Ok.plan) c.in-Some.ensures.found plans.1) refl plans.2 _ _ c.in-Ok.ensures.reads.same c.carry_out.ensures.carried)
+    (outcome_of plans.0 c.in-Ok.plan) (read_under (texts c.args.words.now) (record { held = m; coming = g.E.Entropy.coming c.args.entropy.now; cuts = cuts_in g.Q.Pace.answered_count g.Q.Pace.cuts_of c.args.pace.now c.plan.new.pace }) (command_of c.in-Some.command) (outcome_of plans.0 c.in-Ok.plan) c.in-Some.ensures.found plans.1) refl plans.2 _ _ c.in-Ok.ensures.reads.same c.carry_out.ensures.carried)
     c.in-Ok.ensures.meaning
 
 pub returns-in-Ok-clause-complete : goal.returns-in-Ok-clause-complete
@@ -29,7 +29,7 @@ returns-in-Ok-clause-complete g c =
     if_told (g.H.Shelf.held c.args.shelf.now)
     (λ m does. λ shelf entropy crew sink enough.
     let mid = c.in-Ok.ensures.reads.stays_calm shelf in
-    completes (Means (texts c.args.words.now) (record { held = m; coming = g.E.Entropy.coming c.args.entropy.now; cuts = cuts_since (g.Q.Pace.answered_count c.args.pace.now) (g.Q.Pace.answered_count c.plan.new.pace) (g.Q.Pace.cuts_of c.plan.new.pace) })) (AskForSeeds (texts c.args.words.now) m) _ _ c.carry_out.result c.carry_out.ensures.done
+    completes (Means (texts c.args.words.now) (record { held = m; coming = g.E.Entropy.coming c.args.entropy.now; cuts = cuts_in g.Q.Pace.answered_count g.Q.Pace.cuts_of c.args.pace.now c.plan.new.pace })) (AskForSeeds (texts c.args.words.now) m) _ _ c.carry_out.result c.carry_out.ensures.done
     (λ e. never_rose _ _ (g.met.H.Shelf.calm_has_no_faults _ mid) (g.met.H.Shelf.calm_has_no_faults _ (c.carry_out.ensures.shelf_calm mid)) (c.carry_out.ensures.shelf_fault e))
     (λ e. carries_no_entropy (changes_of c.in-Ok.plan.changes.items) (string_bytes c.in-Ok.plan.text) (g.H.Shelf.held c.plan.new.shelf) (g.H.Shelf.held c.carry_out.new.shelf) (g.K.Sink.told c.args.out.now) (g.K.Sink.told c.carry_out.new.out) _ c.carry_out.ensures.carried e)
     (λ e. carries_no_crew (changes_of c.in-Ok.plan.changes.items) (string_bytes c.in-Ok.plan.text) (g.H.Shelf.held c.plan.new.shelf) (g.H.Shelf.held c.carry_out.new.shelf) (g.K.Sink.told c.args.out.now) (g.K.Sink.told c.carry_out.new.out) _ c.carry_out.ensures.carried e)
@@ -73,7 +73,7 @@ returns-in-Ok-clause-writes g c = written (changes_of c.in-Ok.plan.changes.items
 pub returns-in-Err-clause-meaning : goal.returns-in-Err-clause-meaning
 returns-in-Err-clause-meaning g c =
     if_told (g.H.Shelf.held c.args.shelf.now)
-    (λ m h. refused_does (texts c.args.words.now) (record { held = m; coming = g.E.Entropy.coming c.args.entropy.now; cuts = cuts_since (g.Q.Pace.answered_count c.args.pace.now) (g.Q.Pace.answered_count c.plan.new.pace) (g.Q.Pace.cuts_of c.plan.new.pace) }) (command_of c.in-Some.command) c.in-Some.ensures.found
+    (λ m h. refused_does (texts c.args.words.now) (record { held = m; coming = g.E.Entropy.coming c.args.entropy.now; cuts = cuts_in g.Q.Pace.answered_count g.Q.Pace.cuts_of c.args.pace.now c.plan.new.pace }) (command_of c.in-Some.command) c.in-Some.ensures.found
     (g.H.Shelf.held c.args.shelf.now) (g.H.Shelf.held c.plan.new.shelf) (g.E.Entropy.coming c.plan.new.entropy) (g.K.Sink.told c.args.out.now) c.in-Err.ensures.reads.same c.in-Err.status h)
     c.in-Err.ensures.meaning
 
@@ -81,7 +81,7 @@ pub returns-in-Err-clause-complete : goal.returns-in-Err-clause-complete
 returns-in-Err-clause-complete g c =
     if_told (g.H.Shelf.held c.args.shelf.now)
     (λ m does. λ shelf entropy crew sink enough.
-    completes (Means (texts c.args.words.now) (record { held = m; coming = g.E.Entropy.coming c.args.entropy.now; cuts = cuts_since (g.Q.Pace.answered_count c.args.pace.now) (g.Q.Pace.answered_count c.plan.new.pace) (g.Q.Pace.cuts_of c.plan.new.pace) })) (AskForSeeds (texts c.args.words.now) m) _ _ c.in-Err.status
+    completes (Means (texts c.args.words.now) (record { held = m; coming = g.E.Entropy.coming c.args.entropy.now; cuts = cuts_in g.Q.Pace.answered_count g.Q.Pace.cuts_of c.args.pace.now c.plan.new.pace })) (AskForSeeds (texts c.args.words.now) m) _ _ c.in-Err.status
     (λ e. absurd (c.in-Err.ensures.cause.undone e))
     (λ e. never_rose _ _ (g.met.H.Shelf.calm_has_no_faults _ shelf) (g.met.H.Shelf.calm_has_no_faults _ (c.in-Err.ensures.reads.stays_calm shelf)) (c.in-Err.ensures.cause.counted.shelf e))
     (λ e. never_rose _ _ (g.met.E.Entropy.calm_has_no_faults _ entropy) (g.met.E.Entropy.calm_has_no_faults _ (c.in-Err.ensures.calm entropy (enough (command_of c.in-Some.command) c.in-Some.ensures.found))) (c.in-Err.ensures.cause.counted.entropy e))

@@ -1,5 +1,0 @@
-use Rattle.committee.proofs.MoveLaws.{moves_keep_the_key as law}
-use Rattle.committee.proofs.top.a_move_keeps_the_key.Goals as goal
-
-pub returns : goal.returns
-returns c = law

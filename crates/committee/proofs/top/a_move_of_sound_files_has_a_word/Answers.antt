@@ -1,5 +1,0 @@
-use Rattle.committee.proofs.MoveLaws.{sound_moves_have_words as law}
-use Rattle.committee.proofs.top.a_move_of_sound_files_has_a_word.Goals as goal
-
-pub returns : goal.returns
-returns c = law

@@ -1,5 +1,0 @@
-use Rattle.committee.proofs.Beginning.{periods_go_on as law}
-use Rattle.committee.proofs.top.a_next_period_begins_with_one_change.Goals as goal
-
-pub returns : goal.returns
-returns c = law

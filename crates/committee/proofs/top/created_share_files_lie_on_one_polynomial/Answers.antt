@@ -1,5 +1,0 @@
-use Rattle.committee.proofs.Creating.{creates_on_one_line as law}
-use Rattle.committee.proofs.top.created_share_files_lie_on_one_polynomial.Goals as goal
-
-pub returns : goal.returns
-returns c = law
