@@ -33,6 +33,3 @@ pub use phase::Phase;
 pub use refresh::plan_refresh;
 pub use refresh_phase::{refresh_minds, run_refresh};
 pub use standing::Asked;
-
-#[cfg(test)]
-mod tests;

@@ -16,6 +16,3 @@ pub use top::{
     honest_files_are_recovered, honest_files_work, one_meaning, one_status,
     one_status_where_nobody_is_cut, run,
 };
-
-#[cfg(test)]
-mod tests;

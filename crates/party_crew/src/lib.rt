@@ -16,6 +16,3 @@ pub use crews::{Crew, CrewFault, FailCrew, HoldCrew, Member, ThreadCrew, run_all
 pub use gate::{Gate, OpenGate};
 pub use paces::{HoldPace, Pace, ScriptPace, StillPace, TurnPace};
 pub use phase::{PhaseFault, PhaseRecord, run_phase};
-
-#[cfg(test)]
-mod tests;

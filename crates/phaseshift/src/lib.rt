@@ -6,8 +6,6 @@ mod factors;
 pub mod laws;
 mod masks;
 mod shift;
-#[cfg(test)]
-mod tests;
 mod vanishing;
 
 pub use shift::{has_room, other_phase};

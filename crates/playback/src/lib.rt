@@ -7,8 +7,6 @@ mod played;
 mod said;
 mod seats;
 mod shares;
-#[cfg(test)]
-mod tests;
 mod words;
 
 pub use kept::is_kept;

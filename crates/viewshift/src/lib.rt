@@ -3,19 +3,13 @@
 #![tactic(auto)]
 
 mod choices;
-#[cfg(test)]
-mod choices_tests;
 mod fitting;
 mod history;
 mod key;
 pub mod laws;
-#[cfg(test)]
-mod lives;
 mod masks;
 mod phases;
 mod polynomials;
-#[cfg(test)]
-mod tests;
 mod views;
 
 pub use choices::other_choices;

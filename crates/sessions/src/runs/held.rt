@@ -2,7 +2,8 @@
 ghost use Rattle.std.specs.Prelude.{◌≤◌, ◌<◌};
 
 use super::{runs_with, shelf_of};
-use party_crew::{HoldCrew, HoldPace, Pace};
+use crews::HoldCrew;
+use paces::{HoldPace, Pace};
 use shelf::{MemoryShelf, Shelf};
 use std::alloc::Global;
 use std::sync::atomic::AtomicBool;

@@ -3,11 +3,12 @@ ghost use Rattle.std.specs.Prelude.{◌≤◌};
 mod held;
 mod late;
 
-use super::*;
+use committee::{Crew, Pace, Status, run};
+use crews::{FailCrew, ThreadCrew};
 use field61::Fe;
 use keyroom::{MemberState, Sealed, check_key, open_doc, recover_key, seal_doc, share_name};
 use lists::TryCopy;
-use party_crew::{FailCrew, StillPace, ThreadCrew};
+use paces::StillPace;
 use sharefile::{KeyName, NowFile, ShareFile, read_now, write_now, write_share};
 use shelf::{MemoryEntropy, MemoryShelf, MemorySink, Shelf};
 use std::alloc::Global;

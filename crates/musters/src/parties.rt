@@ -5,11 +5,11 @@ ghost use Rattle.talk.specs.declared.messages.Post.TheVariants.{Quiet as QuietPo
 ghost use Rattle.talk.specs.declared.messages.Ring.TheVariants.{Nothing as NoRing};
 ghost use Rattle.talk.specs.declared.messages.Say.TheVariants.{Speak as Speaking};
 
-use crate::{
+use lists::OutOfMemory;
+use party_crew::{
     Crew, FailCrew, Gate, HoldCrew, HoldPace, OpenGate, Pace, ScriptPace, StillPace, ThreadCrew,
     TurnPace, run_phase,
 };
-use lists::OutOfMemory;
 use std::alloc::Global;
 use std::sync::atomic::AtomicBool;
 use std::sync::atomic::Ordering::SeqCst;

@@ -1,9 +1,9 @@
 //! Tests of the other phase, on worked values of four members of whom one may be faulty.
 
-use super::*;
 use bivar61::{Grid, GridList};
 use field61::Fe;
 use lists::OutOfMemory;
+use phaseshift::{has_room, other_phase};
 use playback::{Phase, PhaseKind, SaidList, is_kept};
 use std::alloc::Global;
 use talk::Setting;

@@ -1,7 +1,7 @@
 use Rattle.std.proofs.Common.{rules, ◌≡◌, ℕ, ◌+◌, List, [], ◌∷◌, refl}
 use Rattle.talk.specs.Shape.{Shape, seats}
 use Rattle.talk.specs.Hears.{Hearing, Seated}
-use Rattle.party_crew.proofs.tests.masks_of.Goals as goal
+use Rattle.musters.proofs.parties.masks_of.Goals as goal
 
 hearing_all : {M : Type 0} (ms : List M) → Hearing {M = M} (λ _ _. Unit {0}) 1 ms
 hearing_all [] = tt

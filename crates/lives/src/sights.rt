@@ -3,12 +3,12 @@
 
 ghost use Rattle.std.specs.Prelude.{◌≡◌, ℕ, ◌+◌, ◌*◌, ◌<◌, ◌≤◌, length, IfOk};
 
-use super::*;
 use bivar61::{Grid, GridList};
 use field61::{Fe, FeList};
 use lists::OutOfMemory;
 use std::alloc::Global;
 use talk::{Post, PostList, Ring, RingList, Setting};
+use viewshift::{History, Phase, PhaseKind, PhaseList, SaidList, key_of, views_of};
 
 // Puts a dealer's five grids of degree 1 at the end of a list: in the first lane constant + slope * y.
 fn deal_line(

@@ -2,8 +2,9 @@
 ghost use Rattle.std.specs.Prelude.{◌≤◌};
 
 use super::{put_share, runs, seven_seeds, shelf_of, words};
-use crate::{Status, run};
-use party_crew::{StillPace, ThreadCrew};
+use committee::{Status, run};
+use crews::ThreadCrew;
+use paces::StillPace;
 use shelf::{MemoryShelf, MemorySink, Shelf};
 use std::alloc::Global;
 use std::sync::Wait;

@@ -1,7 +1,7 @@
 use Rattle.std.proofs.Common.{◌≡◌, ℕ, sym, ap, ◌∙◌, subst, arith}
 use Rattle.talk.specs.Shape.{Shape, Lawful, rounds}
 use Rattle.histories61.proofs.Fits.{lawful_create}
-use Rattle.playback.proofs.tests.shares_of.Goals as goal
+use Rattle.lives.proofs.played.shares_of.Goals as goal
 
 pub play-requires-clause-setting : goal.play-requires-clause-setting
 play-requires-clause-setting c = subst Lawful (sym c.requires) (lawful_create 4 1 (record { some_bad = omega arith; third = omega arith; most = omega arith }))

@@ -1,6 +1,7 @@
-use super::{plan_create, plan_move, plan_refresh};
+use commands::{plan_create, plan_move, plan_refresh};
+use crews::{Crew, ThreadCrew};
 use keyroom::{Plan, Status, carry_out};
-use party_crew::{Crew, StillPace, ThreadCrew};
+use paces::StillPace;
 use sharefile::KeyName;
 use shelf::{MemoryEntropy, MemoryShelf, MemorySink, Shelf};
 use sizes::Committee;

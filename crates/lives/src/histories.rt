@@ -2,12 +2,12 @@
 
 ghost use Rattle.std.specs.Prelude.{◌≡◌, ◌≤◌, length, IfOk};
 
-use super::*;
 use bivar61::{Grid, GridList};
 use field61::Fe;
 use lists::OutOfMemory;
 use std::alloc::Global;
 use talk::Setting;
+use viewshift::{History, HistoryFault, Phase, PhaseKind, PhaseList, SaidList};
 
 // Five grids of each of four members, by the setting of a create.
 fn create_grids(alloc: Global) -> Result<GridList, OutOfMemory> {

@@ -8,10 +8,10 @@ ghost use Rattle.playback.specs.Recorded.{play_of};
 ghost use Rattle.playback.specs.Kept.{IsKept};
 ghost use Rattle.playback.specs.Shares.{IsPlayed};
 
-use super::*;
 use bivar61::{Grid, GridList};
 use field61::Fe;
 use lists::{OutOfMemory, TryCopy};
+use playback::{Phase, PhaseKind, SaidItem, SaidList, created_shares, is_kept, play};
 use std::alloc::Global;
 use talk::{Post, Ring, Setting};
 

@@ -1,11 +1,14 @@
 //! Tests of other choices, on worked values.
 
-use super::*;
 use bivar61::{Grid, GridList};
 use field61::Fe;
 use lists::OutOfMemory;
 use std::alloc::Global;
 use talk::{Complaint, Post, Reveal, Ring, Setting};
+use viewshift::{
+    History, HistoryFault, Phase, PhaseKind, PhaseList, SaidList, Views, key_of, other_choices,
+    views_of,
+};
 
 // ---- histories
 
