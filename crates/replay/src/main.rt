@@ -10,8 +10,6 @@ mod fault;
 mod line;
 mod listed;
 mod replay;
-#[cfg(test)]
-mod tests;
 
 use replay::Replay;
 use std::io::{self, BufReader, BufWriter, Write};
