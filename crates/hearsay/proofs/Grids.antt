@@ -23,7 +23,7 @@ use Rattle.hearsay.specs.Record.{dealer_grids, grids_in, HasGrids}
 use Rattle.hearsay.proofs.Lists.{every_flat, every_map, every_unless, every_all}
 
 -- the grids of a dealer that isn't down
-abbrev dealt : Play → ℕ → List (List (List Fp))
+abbrev pub dealt : Play → ℕ → List (List (List Fp))
 dealt play dealer = cond (play.down dealer) [] (dealer_grids play dealer)
 
 points_suc : {A : Type 0} (f : ℕ → List A) (n : ℕ) → flat_map f (points_up_to (suc n)) ≡ flat_map f (points_up_to n) ++ f (suc n)
@@ -35,7 +35,7 @@ length_five : (play : Play) (dealer : ℕ) (b : Bool) → length (cond b [] (dea
 length_five play dealer true = refl
 length_five play dealer false = length-map-range_with_len (λ lane. play.grid (instance_at dealer lane)) 0 5
 
-length_dealt : (play : Play) (n : ℕ) → length (flat_map (dealt play) (points_up_to n)) ≡ 5 * how_many n (λ k. not (play.down k))
+pub length_dealt : (play : Play) (n : ℕ) → length (flat_map (dealt play) (points_up_to n)) ≡ 5 * how_many n (λ k. not (play.down k))
 length_dealt play zero = refl
 length_dealt play (suc n) =
     omega (
@@ -55,7 +55,7 @@ module _ (play : Play) (mask : ℕ) (lawful : Lawful play.shape) (marks : Marks 
   length_grids = length_dealt play play.shape.dealers ∙ ap (λ n. 5 * n) (sym (counted play.shape.dealers (omega arith)))
 
 -- ---- where they stand
-dealt_at : (play : Play) (dealer lane : ℕ) → play.down dealer ≡ false → lane < 5 → get_or (dealt play dealer) lane [] ≡ play.grid (instance_at dealer lane)
+pub dealt_at : (play : Play) (dealer lane : ℕ) → play.down dealer ≡ false → lane < 5 → get_or (dealt play dealer) lane [] ≡ play.grid (instance_at dealer lane)
 dealt_at play dealer lane up l5 =
     ap (λ (b : Bool). get_or (cond b [] (dealer_grids play dealer)) lane []) up
     ∙ get_or-map-range_with_len (λ l. play.grid (instance_at dealer l)) 0 5 lane lane [] l5 (omega arith)

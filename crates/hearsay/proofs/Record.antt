@@ -24,10 +24,10 @@ use Rattle.hearsay.proofs.Items.{said_post_is, said_ring_is, said_ascends, items
 use Rattle.hearsay.proofs.Grids.{length_grids, grid_is, all_grids}
 
 -- the record with this mask
-abbrev recorded : PhaseKind → Play → ℕ → Phase
+abbrev pub recorded : PhaseKind → Play → ℕ → Phase
 recorded kind play mask = record { kind = kind; setting = play.shape; down = mask; grids = grids_in play; said = said_in play }
 
-recorded_is : (kind : PhaseKind) (play : Play) (phase : Phase) → IsRecordOf kind play phase → phase ≡ recorded phase.kind play phase.down
+pub recorded_is : (kind : PhaseKind) (play : Play) (phase : Phase) → IsRecordOf kind play phase → phase ≡ recorded phase.kind play phase.down
 recorded_is kind play phase is =
     ap₂ (λ (s : Shape) (g : List (List (List Fp))). let p : Phase = record { kind = phase.kind; setting = s; down = phase.down; grids = g; said = phase.said } in p) is.setting_is is.grids_are
     ∙ ap (λ (said : List SaidItem). let p : Phase = record { kind = phase.kind; setting = play.shape; down = phase.down; grids = grids_in play; said = said } in p) is.said_is

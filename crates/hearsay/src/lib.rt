@@ -3,5 +3,7 @@
 
 pub mod laws;
 mod said;
+#[cfg(test)]
+mod tests;
 
 pub use said::said_of;

@@ -87,16 +87,16 @@ pub bound_fits : (n bound : ℕ) → is_bound n bound ≡ true → bound ≤ n
 bound_fits n bound is = grind (arith, nat_tests)
 
 -- those who are seen are at most as many as the bound
-seen_few : (n bound : ℕ) (before after : ℕ → Bool) (b : Bool) → how_many n before ≤ bound → how_many n after ≤ bound → how_many n (cond b after before) ≤ bound
+pub seen_few : (n bound : ℕ) (before after : ℕ → Bool) (b : Bool) → how_many n before ≤ bound → how_many n after ≤ bound → how_many n (cond b after before) ≤ bound
 seen_few n bound before after true few more = more
 seen_few n bound before after false few more = few
 
 -- who is down before is seen where that stays so
-seen_before : (before after : ℕ → Bool) (b : Bool) (member : ℕ) → (before member ≡ true → after member ≡ true) → before member ≡ true → cond b after before member ≡ true
+pub seen_before : (before after : ℕ → Bool) (b : Bool) (member : ℕ) → (before member ≡ true → after member ≡ true) → before member ≡ true → cond b after before member ≡ true
 seen_before before after true member stays down = stays down
 seen_before before after false member stays down = down
 
-seen_next : (before after : ℕ → Bool) (b : Bool) (member : ℕ) → b ≡ true → after member ≡ true → cond b after before member ≡ true
+pub seen_next : (before after : ℕ → Bool) (b : Bool) (member : ℕ) → b ≡ true → after member ≡ true → cond b after before member ≡ true
 seen_next before after b member e down = ap (λ x. cond x after before member) e ∙ down
 
 module _ (members bound number periods phase : ℕ) (size : is_size members ≡ true) (bounded : is_bound members bound ≡ true) where

@@ -9,7 +9,7 @@ use Rattle.scenes.specs.Scenes.{coming_side, down_mask, is_down_on, is_drilled, 
 use Rattle.scenes.specs.Law.{Follows}
 use Rattle.scenes.proofs.Masks.{mask_has}
 
-begun_by : (number phase : ℕ) (last : Side) (b : Bool) → old_side (cond b (Move (staying_side number phase last) (coming_side number phase last)) (Refresh (staying_side number phase last))) ≡ staying_side number phase last
+pub begun_by : (number phase : ℕ) (last : Side) (b : Bool) → old_side (cond b (Move (staying_side number phase last) (coming_side number phase last)) (Refresh (staying_side number phase last))) ≡ staying_side number phase last
 begun_by number phase last true = refl
 begun_by number phase last false = refl
 

@@ -22,10 +22,10 @@ use Rattle.scenes.specs.Lawful.{AreOrders, is_drilled_seat, is_late}
 use Rattle.scenes.proofs.Sides.{scenes_are, size_least}
 
 -- ---- one order
-within_from : (low k high : ℕ) → low ≤ k → k ≤ high → within low k high ≡ true
+pub within_from : (low k high : ℕ) → low ≤ k → k ≤ high → within low k high ≡ true
 within_from low k high from to = and_from _ _ (le-leb low k from) (le-leb k high to)
 
-lawful_from : (s : Shape) (o : Order) → 1 ≤ o.party → o.party ≤ seats s → 1 ≤ o.round → o.round ≤ rounds s → allows s o.party o.round o.verb ≡ true → IsLawful s o
+pub lawful_from : (s : Shape) (o : Order) → 1 ≤ o.party → o.party ≤ seats s → 1 ≤ o.round → o.round ≤ rounds s → allows s o.party o.round o.verb ≡ true → IsLawful s o
 lawful_from s o from to early late may =
     and_from _ _ (within_from 1 o.party (seats s) from to) (and_from _ _ (within_from 1 o.round (rounds s) early late) may)
 
@@ -39,10 +39,10 @@ follows_other n member some from to same = elim (cases_lt member n) [
       omega (arith, none, last, some, same)
 ]
 
-follows_within : (n member : ℕ) → 1 ≤ n → following n member ≤ n
+pub follows_within : (n member : ℕ) → 1 ≤ n → following n member ≤ n
 follows_within n member some = let low : member % n < n = mod-lt member (omega (arith, some)) in omega (arith, low)
 
-follows_receiver : (s : Shape) (member : ℕ) → 2 ≤ s.receivers → 1 ≤ member → member ≤ s.receivers → other_receiver s (s.shift + member) (following s.receivers member) ≡ true
+pub follows_receiver : (s : Shape) (member : ℕ) → 2 ≤ s.receivers → 1 ≤ member → member ≤ s.receivers → other_receiver s (s.shift + member) (following s.receivers member) ≡ true
 follows_receiver s member some from to =
     let differ : eqb (s.shift + following s.receivers member) (s.shift + member) ≡ false =
     ne_eqb (s.shift + following s.receivers member) (s.shift + member) (λ same. follows_other s.receivers member some from to (omega (arith, same))) in
@@ -65,13 +65,13 @@ told_all : (P : Order → Type 0) (All : List Order → Type 0) (f : ℕ → Ord
 told_all P All f None none one each = none
 told_all P All f (Some member) none one each = one (f member) (each member (eq-eqb member member refl))
 
-told_lawful : (s : Shape) (f : ℕ → Order) (drilled : Option ℕ) → ((member : ℕ) → is_drilled drilled member ≡ true → IsLawful s (f member)) → AllLawful s (listed (for_drilled f drilled))
+pub told_lawful : (s : Shape) (f : ℕ → Order) (drilled : Option ℕ) → ((member : ℕ) → is_drilled drilled member ≡ true → IsLawful s (f member)) → AllLawful s (listed (for_drilled f drilled))
 told_lawful s f drilled each = told_all (IsLawful s) (AllLawful s) f drilled tt (λ o is. (is, tt)) each
 
-abbrev in_time : List Order → Bool
+abbrev pub in_time : List Order → Bool
 in_time orders = list_all (λ order. not (is_late order.verb)) orders
 
-told_in_time : (f : ℕ → Order) (drilled : Option ℕ) → ((member : ℕ) → not (is_late (f member).verb) ≡ true) → in_time (listed (for_drilled f drilled)) ≡ true
+pub told_in_time : (f : ℕ → Order) (drilled : Option ℕ) → ((member : ℕ) → not (is_late (f member).verb) ≡ true) → in_time (listed (for_drilled f drilled)) ≡ true
 told_in_time f drilled each =
     told_all (λ o. not (is_late o.verb) ≡ true) (λ orders. in_time orders ≡ true) f drilled refl (λ o is. and_from (not (is_late o.verb)) true is refl) (λ member named. each member)
 
@@ -79,7 +79,7 @@ or_nobody : (b : Bool) → (b || false) ≡ b
 or_nobody true = refl
 or_nobody false = refl
 
-told_names : (f : ℕ → Order) (drilled : Option ℕ) → ((member : ℕ) → (f member).party ≡ member) → (seat : ℕ) → names (listed (for_drilled f drilled)) seat ≡ is_drilled drilled seat
+pub told_names : (f : ℕ → Order) (drilled : Option ℕ) → ((member : ℕ) → (f member).party ≡ member) → (seat : ℕ) → names (listed (for_drilled f drilled)) seat ≡ is_drilled drilled seat
 told_names f None party seat = refl
 told_names f (Some member) party seat = or_nobody (eqb (f member).party seat) ∙ ap (λ k. eqb k seat) (party member)
 
@@ -97,7 +97,7 @@ shifted shift member seat from = elim (cases_eq (shift + member) seat) [
       ])
 ]
 
-told_names_behind : (shift : ℕ) (f : ℕ → Order) (drilled : Option ℕ) → ((member : ℕ) → (f member).party ≡ shift + member) → ((member : ℕ) → is_drilled drilled member ≡ true → 1 ≤ member) → (seat : ℕ) → names (listed (for_drilled f drilled)) seat ≡ (ltb shift seat && is_drilled drilled (seat - shift))
+pub told_names_behind : (shift : ℕ) (f : ℕ → Order) (drilled : Option ℕ) → ((member : ℕ) → (f member).party ≡ shift + member) → ((member : ℕ) → is_drilled drilled member ≡ true → 1 ≤ member) → (seat : ℕ) → names (listed (for_drilled f drilled)) seat ≡ (ltb shift seat && is_drilled drilled (seat - shift))
 told_names_behind shift f None party some seat = sym (and_right (ltb shift seat) false refl)
 told_names_behind shift f (Some member) party some seat =
     or_nobody (eqb (f member).party seat) ∙ ap (λ k. eqb k seat) (party member) ∙ shifted shift member seat (some member (eq-eqb member member refl))
@@ -107,19 +107,19 @@ or_again : (x y z : Bool) → (x || (y || z)) ≡ ((x || y) || z)
 or_again true y z = refl
 or_again false y z = refl
 
-lawful_both : (s : Shape) (xs ys : List Order) → AllLawful s xs → AllLawful s ys → AllLawful s (xs ++ ys)
+pub lawful_both : (s : Shape) (xs ys : List Order) → AllLawful s xs → AllLawful s ys → AllLawful s (xs ++ ys)
 lawful_both s [] ys first second = second
 lawful_both s (x ∷ xs) ys first second = (first.0, lawful_both s xs ys first.1 second)
 
-names_both : (xs ys : List Order) (seat : ℕ) → names (xs ++ ys) seat ≡ (names xs seat || names ys seat)
+pub names_both : (xs ys : List Order) (seat : ℕ) → names (xs ++ ys) seat ≡ (names xs seat || names ys seat)
 names_both [] ys seat = refl
 names_both (x ∷ xs) ys seat = ap (λ b. eqb x.party seat || b) (names_both xs ys seat) ∙ or_again (eqb x.party seat) (names xs seat) (names ys seat)
 
-in_time_both : (xs ys : List Order) → in_time xs ≡ true → in_time ys ≡ true → in_time (xs ++ ys) ≡ true
+pub in_time_both : (xs ys : List Order) → in_time xs ≡ true → in_time ys ≡ true → in_time (xs ++ ys) ≡ true
 in_time_both xs ys first second = list_all-append (λ order. not (is_late order.verb)) xs ys ∙ and_from (in_time xs) (in_time ys) first second
 
 -- ---- the verbs of each committee
-abbrev among_order : Side → ℕ → Order
+abbrev pub among_order : Side → ℕ → Order
 among_order side member =
     by_manner side.manner
     (order member 1 Silent)
@@ -127,11 +127,11 @@ among_order side member =
     (order member 3 (Accuse (following side.members member)))
     (order member 5 Veto)
 
-abbrev leaving_order : Side → ℕ → Order
+abbrev pub leaving_order : Side → ℕ → Order
 leaving_order side member =
     by_manner side.manner (order member 1 Silent) (order member 1 (Skew oneₚ)) (order member 1 (Wrong oneₚ)) (order member 4 Silent)
 
-abbrev coming_order : ℕ → Side → ℕ → Order
+abbrev pub coming_order : ℕ → Side → ℕ → Order
 coming_order shift side member =
     by_manner side.manner
     (order (shift + member) 1 Silent)
@@ -140,7 +140,7 @@ coming_order shift side member =
     (order (shift + member) 5 Veto)
 
 -- of a member that deals and receives on its own seat
-among_lawful : (s : Shape) (side : Side) (member : ℕ) → s.shift ≡ 0 → s.receivers ≡ side.members → s.dealers ≡ side.members → 5 ≤ rounds s → 2 ≤ side.members → 1 ≤ member → member ≤ side.members → IsLawful s (among_order side member)
+pub among_lawful : (s : Shape) (side : Side) (member : ℕ) → s.shift ≡ 0 → s.receivers ≡ side.members → s.dealers ≡ side.members → 5 ≤ rounds s → 2 ≤ side.members → 1 ≤ member → member ≤ side.members → IsLawful s (among_order side member)
 among_lawful s side member shift receivers dealers five some from to =
     let all : member ≤ seats s = omega (arith, shift, receivers, to) in
     let dealing : deals s member ≡ true = within_from 1 member s.dealers from (omega (arith, dealers, to)) in
@@ -156,7 +156,7 @@ among_lawful s side member shift receivers dealers five some from to =
     (lawful_from s (order member 5 Veto) from all (omega arith) five receiving)
 
 -- of an old member of a move
-leaving_lawful : (s : Shape) (side : Side) (member : ℕ) → moves s ≡ true → s.dealers ≡ side.members → s.dealers ≤ seats s → 5 ≤ rounds s → 1 ≤ member → member ≤ side.members → IsLawful s (leaving_order side member)
+pub leaving_lawful : (s : Shape) (side : Side) (member : ℕ) → moves s ≡ true → s.dealers ≡ side.members → s.dealers ≤ seats s → 5 ≤ rounds s → 1 ≤ member → member ≤ side.members → IsLawful s (leaving_order side member)
 leaving_lawful s side member moving dealers seated five from to =
     let all : member ≤ seats s = omega (arith, dealers, seated, to) in
     let dealing : deals s member ≡ true = within_from 1 member s.dealers from (omega (arith, dealers, to)) in
@@ -167,7 +167,7 @@ leaving_lawful s side member moving dealers seated five from to =
     (lawful_from s (order member 4 Silent) from all (omega arith) (omega (arith, five)) refl)
 
 -- of a new one
-coming_lawful : (s : Shape) (side : Side) (member : ℕ) → s.receivers ≡ side.members → 5 ≤ rounds s → 2 ≤ side.members → 1 ≤ member → member ≤ side.members → IsLawful s (coming_order s.shift side member)
+pub coming_lawful : (s : Shape) (side : Side) (member : ℕ) → s.receivers ≡ side.members → 5 ≤ rounds s → 2 ≤ side.members → 1 ≤ member → member ≤ side.members → IsLawful s (coming_order s.shift side member)
 coming_lawful s side member receivers five some from to =
     let first : 1 ≤ s.shift + member = omega (arith, from) in
     let all : s.shift + member ≤ seats s = omega (arith, receivers, to) in
@@ -182,45 +182,45 @@ coming_lawful s side member receivers five some from to =
     (lawful_from s (order (s.shift + member) 5 Veto) first all (omega arith) five receiving)
 
 -- ---- each kind of phase
-some_members : (side : Side) → IsSide side → 4 ≤ side.members
+pub some_members : (side : Side) → IsSide side → 4 ≤ side.members
 some_members side is = size_least side.members is.size
 
-among_are_lawful : (s : Shape) (side : Side) → IsSide side → s.shift ≡ 0 → s.receivers ≡ side.members → s.dealers ≡ side.members → 5 ≤ rounds s → AllLawful s (listed (told_among side))
+pub among_are_lawful : (s : Shape) (side : Side) → IsSide side → s.shift ≡ 0 → s.receivers ≡ side.members → s.dealers ≡ side.members → 5 ≤ rounds s → AllLawful s (listed (told_among side))
 among_are_lawful s side is shift receivers dealers five =
     told_lawful s (among_order side) side.drilled
     (λ member named.
     among_lawful s side member shift receivers dealers five (omega (arith, some_members side is)) (is.drilled member named).0 (is.drilled member named).1)
 
-among_names : (side : Side) (seat : ℕ) → names (listed (told_among side)) seat ≡ is_drilled side.drilled seat
+pub among_names : (side : Side) (seat : ℕ) → names (listed (told_among side)) seat ≡ is_drilled side.drilled seat
 among_names side seat = told_names (among_order side) side.drilled (λ member. turned (λ (o : Order). o.party ≡ member) side.manner _ _ _ _ refl refl refl refl) seat
 
-among_in_time : (side : Side) → in_time (listed (told_among side)) ≡ true
+pub among_in_time : (side : Side) → in_time (listed (told_among side)) ≡ true
 among_in_time side = told_in_time (among_order side) side.drilled (λ member. turned (λ (o : Order). not (is_late o.verb) ≡ true) side.manner _ _ _ _ refl refl refl refl)
 
-created_are : (side : Side) → IsSide side → AreOrders (Create side)
+pub created_are : (side : Side) → IsSide side → AreOrders (Create side)
 created_are side is = record {
   lawful = among_are_lawful (create_shape side.members side.bound) side is refl refl refl (omega arith);
   named = among_names side;
   in_time = among_in_time side;
 }
 
-refreshed_are : (side : Side) → IsSide side → AreOrders (Refresh side)
+pub refreshed_are : (side : Side) → IsSide side → AreOrders (Refresh side)
 refreshed_are side is = record {
   lawful = among_are_lawful (refresh_shape side.members side.bound) side is refl refl refl (omega arith);
   named = among_names side;
   in_time = among_in_time side;
 }
 
-some_checks : (n t : ℕ) → is_bound n t ≡ true → eqb (n - t - 1) 0 ≡ false
+pub some_checks : (n t : ℕ) → is_bound n t ≡ true → eqb (n - t - 1) 0 ≡ false
 some_checks n t is = ne_eqb (n - t - 1) 0 (λ none. grind (arith, nat_tests))
 
-six_rounds : (old new : Side) → IsSide old → rounds (move_shape old.members old.bound new.members new.bound) ≡ 6
+pub six_rounds : (old new : Side) → IsSide old → rounds (move_shape old.members old.bound new.members new.bound) ≡ 6
 six_rounds old new is = ap (λ b. cond b 5 6) (some_checks old.members old.bound is.bound)
 
 moving : (n : ℕ) → 4 ≤ n → not (eqb n 0) ≡ true
 moving n some = ap not (ne_eqb n 0 (λ none. omega (arith, some, none)))
 
-moved_are : (old new : Side) → IsSide old → IsSide new → AreOrders (Move old new)
+pub moved_are : (old new : Side) → IsSide old → IsSide new → AreOrders (Move old new)
 moved_are old new is will =
     let shape : Shape = move_shape old.members old.bound new.members new.bound in
     let six : rounds (move_shape old.members old.bound new.members new.bound) ≡ 6 = six_rounds old new is in

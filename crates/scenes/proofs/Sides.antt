@@ -68,15 +68,15 @@ either_one : (b c : Bool) → cond (b || c) 1 0 ≤ cond b 1 0 + cond c 1 0
 either_one true c = omega arith
 either_one false c = omega arith
 
-either_count : (n : ℕ) (f g : ℕ → Bool) → how_many n (λ k. f k || g k) ≤ how_many n f + how_many n g
+pub either_count : (n : ℕ) (f g : ℕ → Bool) → how_many n (λ k. f k || g k) ≤ how_many n f + how_many n g
 either_count zero f g = omega arith
 either_count (suc n) f g = omega (arith, either_count n f g, either_one (f (suc n)) (g (suc n)))
 
-or_nobody : (b : Bool) → (b || false) ≡ b
+pub or_nobody : (b : Bool) → (b || false) ≡ b
 or_nobody true = refl
 or_nobody false = refl
 
-nobody_more : (n : ℕ) (f : ℕ → Bool) → how_many n (λ k. f k || false) ≡ how_many n f
+pub nobody_more : (n : ℕ) (f : ℕ → Bool) → how_many n (λ k. f k || false) ≡ how_many n f
 nobody_more n f = how_many_same n (λ k. f k || false) f (λ k from to. or_nobody (f k))
 
 -- a drilled member is one who has a share, and there is room for it
@@ -86,7 +86,7 @@ pub record IsDrilled (members bound shareless member : ℕ) : Type 0 where
   pub has_share : has shareless member ≡ false
   pub room : how_many members (has shareless) < bound
 
-found_one : (members bound shareless draw member : ℕ) → 1 ≤ members → how_many members (has shareless) < bound → first_unnamed members draw (has shareless) ≡ Some member → IsDrilled members bound shareless member
+pub found_one : (members bound shareless draw member : ℕ) → 1 ≤ members → how_many members (has shareless) < bound → first_unnamed members draw (has shareless) ≡ Some member → IsDrilled members bound shareless member
 found_one members bound shareless draw member some room e =
     let found : IsFound (λ k. not (has shareless k)) (λ steps. 1 + (draw + steps) % members) 0 members member =
     found_is (λ k. not (has shareless k)) (λ steps. 1 + (draw + steps) % members) members 0 member e in
@@ -109,13 +109,13 @@ drilled_is members bound shareless draw member some e =
     drilled_step members bound shareless draw member (leb bound (how_many members (has shareless))) refl some e
 
 -- ---- who is down
-few_with : (members bound shareless : ℕ) (drilled : Option ℕ) → how_many members (has shareless) ≤ bound → ((member : ℕ) → drilled ≡ Some member → IsDrilled members bound shareless member) → how_many members (λ k. has shareless k || is_drilled drilled k) ≤ bound
+pub few_with : (members bound shareless : ℕ) (drilled : Option ℕ) → how_many members (has shareless) ≤ bound → ((member : ℕ) → drilled ≡ Some member → IsDrilled members bound shareless member) → how_many members (λ k. has shareless k || is_drilled drilled k) ≤ bound
 few_with members bound shareless None few is = omega (arith, few, nobody_more members (has shareless))
 few_with members bound shareless (Some member) few is =
     let room : how_many members (has shareless) < bound = (is member refl).room in
     omega (arith, room, either_count members (has shareless) (λ k. eqb member k), (one_at_most members member).0)
 
-named_only : (members bound shareless : ℕ) (drilled : Option ℕ) (member : ℕ) → ((k : ℕ) → drilled ≡ Some k → IsDrilled members bound shareless k) → is_drilled drilled member ≡ true → IsDrilled members bound shareless member
+pub named_only : (members bound shareless : ℕ) (drilled : Option ℕ) (member : ℕ) → ((k : ℕ) → drilled ≡ Some k → IsDrilled members bound shareless k) → is_drilled drilled member ≡ true → IsDrilled members bound shareless member
 named_only members bound shareless None member is e = let differ : false ≡ true = e in cc
 named_only members bound shareless (Some k) member is e =
     subst (IsDrilled members bound shareless) (eqb-true k member e) (is k refl)
@@ -137,24 +137,24 @@ side_is members bound shareless who how size bounded mask few =
     }
 
 -- ---- phases
-staying_is : (number phase : ℕ) (last : Side) → IsSide last → IsSide (staying_side number phase last)
+pub staying_is : (number phase : ℕ) (last : Side) → IsSide last → IsSide (staying_side number phase last)
 staying_is number phase last is =
     side_is last.members last.bound (down_mask last) (draw number (draws_before phase + 1)) (draw number (draws_before phase + 2)) is.size is.bound
     (mask_below last.members (is_down_on last))
     (subst (λ (k : ℕ). k ≤ last.bound) (sym (mask_count last.members (is_down_on last))) is.few)
 
-none_down : (members bound : ℕ) → how_many members (has 0) ≤ bound
+pub none_down : (members bound : ℕ) → how_many members (has 0) ≤ bound
 none_down members bound = let none : how_many members (has 0) ≡ 0 = none_count members in omega (arith, none)
 
-some_mask : (members : ℕ) → 0 < 2 ^ members
+pub some_mask : (members : ℕ) → 0 < 2 ^ members
 some_mask members = pow_pos members
 
-coming_is : (number phase : ℕ) (last : Side) → IsSide (coming_side number phase last)
+pub coming_is : (number phase : ℕ) (last : Side) → IsSide (coming_side number phase last)
 coming_is number phase last =
     side_is (size_after last.members) (largest_bound (size_after last.members)) 0 (draw number (draws_before phase + 2 + 1)) (draw number (draws_before phase + 2 + 2))
     (size_of_next last.members) (bound_of_next last.members) (some_mask (size_after last.members)) (none_down (size_after last.members) (largest_bound (size_after last.members)))
 
-after_is : (number phase : ℕ) (last : Side) → IsSide last → (b : Bool) → AreSides (cond b (Move (staying_side number phase last) (coming_side number phase last)) (Refresh (staying_side number phase last)))
+pub after_is : (number phase : ℕ) (last : Side) → IsSide last → (b : Bool) → AreSides (cond b (Move (staying_side number phase last) (coming_side number phase last)) (Refresh (staying_side number phase last)))
 after_is number phase last is true = (staying_is number phase last is, coming_is number phase last)
 after_is number phase last is false = (staying_is number phase last is, staying_is number phase last is)
 

@@ -10,6 +10,8 @@ mod orders;
 mod scene;
 mod seeds;
 mod side;
+#[cfg(test)]
+mod tests;
 
 pub use exposed::exposed_masks;
 pub use numbers::Numbers;
