@@ -1,0 +1,14 @@
+pub mod Downs
+pub mod Fitting
+pub mod Drawn
+pub mod Uncut
+pub mod Files
+pub mod Created
+pub mod Refreshed
+pub mod Moved
+pub mod Phases
+pub mod History
+pub mod Words
+pub mod Same
+pub mod One
+pub mod Rehearsals

@@ -1,0 +1,4 @@
+pub mod Standing
+pub mod Played
+pub mod Rehearsal
+pub mod Laws
