@@ -83,13 +83,24 @@ fn status_of<R: Threads + Wait + Sync>(host: &HostRuntime, rt: &R) -> Status {
     )
 }
 
+/// Prints the line of a refusal. That of refused memory takes none, so it is there where no memory is.
+fn print_refusal(host: &HostRuntime, status: &Status) {
+    match status {
+        Status::Done => {}
+        Status::OutOfMemory => {
+            let _ = eprintln!(host; "refused 14 memory");
+        }
+        _ => {
+            if let Ok(line) = status.line(host.alloc()) {
+                let _ = eprintln!(host; "{line}");
+            }
+        }
+    }
+}
+
 fn main(rt: HostRuntime) -> ExitCode {
     keep_freed_memory(rt.alloc());
     let status = status_of(&rt, &rt);
-    if status.code() != 0 {
-        if let Ok(line) = status.line(rt.alloc()) {
-            let _ = eprintln!(rt; "{line}");
-        }
-    }
+    print_refusal(&rt, &status);
     ExitCode::from(status.code())
 }
