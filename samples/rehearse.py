@@ -6,10 +6,10 @@
     rehearse.py --check
     rehearse.py --compare PROGRAM
 
-The first form prints the lines. The second prints of each phase who has no share, who is drilled and to what, and who is
-exposed in the period that it begins. The third form compares values that were worked out by hand or published, and says
-whether they come out. The fourth runs the program `committee` on a dozen rehearsals, and on words that are none, and compares
-what it prints.
+The first form prints the lines. The second prints of each phase who has no share, who is drilled and to what, and who
+is exposed in the period that it begins. The third form compares values that were worked out by hand or published, and
+says whether they come out. The fourth runs the program `committee` on rehearsals of all sizes, each in an empty folder,
+and on words that are none, and compares its status, what it prints, and that no file is left; it takes seconds.
 
 The field, the sharing, the drills and the draws are those of `replay_cases.py`; nothing here is taken from the product.
 """
@@ -107,8 +107,8 @@ def scenes_of(members, bound, periods, number):
 
 
 def exposed_in(scenes):
-    """Who is exposed, period by period: who is down in the phase that ends it, or in the last one that begins it, and the
-    lowest others up to the bound."""
+    """Who is exposed, period by period: who is down in the phase that ends it, or in the last one that begins it, and
+    the lowest others up to the bound."""
     exposed = []
     for phase, scene in enumerate(scenes):
         holding = scene.new
@@ -146,7 +146,8 @@ class Life:
         side = scene.new
         setting = create_setting(side.members, side.bound)
         seats = {
-            me: Seat(setting, me, drawn_grids(self.seed(phase, me), setting.degree)) for me in range(1, side.members + 1)
+            me: Seat(setting, me, drawn_grids(self.seed(phase, me), setting.degree))
+            for me in range(1, side.members + 1)
         }
         play_all(setting, seats, self.drill_of(scene, setting))
         self.shares = {me: seats[me].shares() for me in side.up()}
@@ -222,8 +223,8 @@ def key_held(life, scenes):
 
 def worked_small():
     """A create and a refresh of four members, whose draws were worked out apart: 167951807 is 3 modulo 4, so the create
-    drills member 4, and 218396424 is 0 modulo 4, so it is silent from the first round on. In the refresh it has no share,
-    and nobody more may be down."""
+    drills member 4, and 218396424 is 0 modulo 4, so it is silent from the first round on. In the refresh it has no
+    share, and nobody more may be down."""
     numbers = Numbers(0)
     yield "draws of 0", [numbers.draw() for _ in range(4)], [167951807, 218396424, 1299921937, 861605236]
     scenes = scenes_of(4, 1, 1, 0)
@@ -278,24 +279,45 @@ REHEARSALS = (
     (13, 4, 15, 9),
 )
 NONE = (
-    "4 1 0 0",
-    "4 1 65 0",
-    "4 1 1 4294967296",
-    "4 1 01 0",
-    "4 1 1 +1",
+    "",
+    "4",
+    "4 1",
     "4 1 1",
     "4 1 1 0 0",
-    "4 2 1 0",
-    "6 1 1 0",
+    "4 1 1 0 d",
+    "k1 4 1 1 0",
+    "4 1 0 0",
+    "4 1 65 0",
+    "4 1 4294967297 0",
+    "4 1 18446744073709551617 0",
+    "4 1 1 4294967296",
+    "4 1 1 18446744073709551616",
+    "4 1 01 0",
+    "4 1 1 00",
+    "4 1 1 +1",
+    "4 1 1 -1",
+    "4 1 1 0x1",
+    "4 1 x 0",
+    "04 1 1 0",
     "4 0 1 0",
+    "4 2 1 0",
+    "5 2 1 0",
+    "13 5 1 0",
+    "6 1 1 0",
+    "3 1 1 0",
+    "16 5 1 0",
+    "0 0 1 0",
+    "4 1 1 0 --help",
 )
+SECONDS = 120
 
 
 def told(program, words):
-    """What the program ends with and prints for a rehearsal of these words."""
+    """What the program ends with, all that it prints, and what it leaves for a rehearsal of these words."""
     with tempfile.TemporaryDirectory() as folder:
-        run = subprocess.run([program, "rehearse", *words], cwd=folder, capture_output=True, text=True, check=False)
-        return run.returncode, run.stdout, os.listdir(folder)
+        words = [program, "rehearse", *words]
+        run = subprocess.run(words, cwd=folder, capture_output=True, text=True, check=False, timeout=SECONDS)
+        return run.returncode, run.stdout + run.stderr, os.listdir(folder)
 
 
 def compare_all(program):
@@ -306,7 +328,7 @@ def compare_all(program):
         text = "".join(line + "\n" for line in lines)
         results.append(is_same(f"rehearse {values}", told(program, map(str, values)), (0, text, [])))
     for words in NONE:
-        results.append(is_same(f"rehearse {words}", told(program, words.split())[:2], (2, "")))
+        results.append(is_same(f"rehearse {words}", told(program, words.split()), (2, "refused 2 usage\n", [])))
     print(f"{sum(results)} of {len(results)} rehearsals came out")
     return all(results)
 

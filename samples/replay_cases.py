@@ -17,10 +17,13 @@ seat by seat by the rules of the sharing. The same input gives the same output o
 late is left out, and only seats that pass, or that aren't there, are cut: who is heard would hang on how the threads run.
 """
 
+import functools
 import hashlib
 import hmac
 import itertools
+import operator
 import os
+import struct
 import sys
 
 # The field: whole numbers below P, arithmetic modulo P.
@@ -28,26 +31,81 @@ import sys
 P = 2**61 - 1
 
 
+@functools.lru_cache(maxsize=None)
+def powers(x):
+    """1, x, x^2, .., x^15."""
+    return tuple(pow(x, exponent, P) for exponent in range(16))
+
+
+def product(numbers, others):
+    """The sum of the products of numbers in the same place."""
+    return sum(map(operator.mul, numbers, others)) % P
+
+
 def value_at(poly, x):
-    """The value of a polynomial, a list with the constant first."""
-    total = 0
-    for coefficient in reversed(poly):
-        total = (total * x + coefficient) % P
-    return total
+    """The value of a polynomial, a list of at most 16 numbers with the constant first."""
+    return sum(map(operator.mul, poly, powers(x))) % P
+
+
+class Row:
+    """So many numbers beside one another in one, each in a place of 128 bits, so that a step is taken with all at once."""
+
+    def __init__(self, count):
+        self.ones = sum(1 << 128 * place for place in range(count))
+        self.low, self.high = self.ones * P, self.ones * (2**67 - 1)
+        self.places = struct.Struct("<" + "Q8x" * count)
+
+    def of(self, numbers):
+        return int.from_bytes(self.places.pack(*numbers), "little")
+
+    def listed(self, row):
+        return self.places.unpack(row.to_bytes(self.places.size, "little"))
+
+    def reduced(self, row):
+        """Each modulo P, where it is below 2^124: 2^61 is 1, so what is above the low 61 bits is added to them. After
+        three times each is at most P; then P alone becomes 0."""
+        for _ in range(3):
+            row = (row & self.low) + (row >> 61 & self.high)
+        return (row + (row + self.ones >> 61 & self.ones)) & self.low
+
+
+row_of_so_many = functools.lru_cache(maxsize=None)(Row)
+
+
+class Beside:
+    """Polynomials beside one another: for each coefficient a row of numbers, so that all are evaluated at once. At each
+    of 1 to 15 a value has at most 124 bits before it is taken modulo P."""
+
+    def __init__(self, polys):
+        by_coefficient = list(zip(*polys))
+        self.row = row_of_so_many(len(by_coefficient[0]))
+        self.coefficients = [self.row.of(those) for those in by_coefficient]
+
+    def at(self, x):
+        """The row of their values at one of 1 to 15."""
+        return self.row.reduced(sum(map(operator.mul, self.coefficients, powers(x))))
+
+
+@functools.lru_cache(maxsize=None)
+def weights_through(places):
+    """How the polynomial of least degree through points at these places follows from their values: for each coefficient
+    what it takes of each value."""
+    bases = []
+    for x in places:
+        basis, scale = [1], 1
+        for other in places:
+            if other != x:
+                basis = [(low - other * high) % P for low, high in zip([0] + basis, basis + [0])]
+                scale = scale * (x - other) % P
+        factor = pow(scale, -1, P)
+        bases.append([coefficient * factor % P for coefficient in basis])
+    return list(zip(*bases))
 
 
 def through(points):
     """The polynomial of least degree through points with different first parts."""
-    total = [0] * len(points)
-    for x, y in points:
-        basis, scale = [1], 1
-        for other, _ in points:
-            if other != x:
-                basis = [(low - other * high) % P for low, high in zip([0] + basis, basis + [0])]
-                scale = scale * (x - other) % P
-        factor = y * pow(scale, P - 2, P) % P
-        total = [(a + factor * b) % P for a, b in zip(total, basis)]
-    return total
+    places, values = zip(*points)
+    return [product(weights, values) for weights in weights_through(places)]
 
 
 def nearest(values, degree):
@@ -58,7 +116,7 @@ def nearest(values, degree):
     if room < 0:
         return None
     for some in itertools.combinations(present, degree + 1):
-        poly = through(list(some))
+        poly = through(some)
         wrong = sum(value_at(poly, place) != value for place, value in present)
         if 2 * wrong <= room:
             return poly
@@ -68,6 +126,7 @@ def nearest(values, degree):
 # The parity check of n points with bound t, and what is wrong by a syndrome.
 
 
+@functools.lru_cache(maxsize=None)
 def check_rows(n, t):
     """H[m][i - 1] = w_i * i^m, where w_i is 1 divided by the product of i - j over the other points j."""
     weights = []
@@ -76,35 +135,41 @@ def check_rows(n, t):
         for j in range(1, n + 1):
             if j != i:
                 product = product * (i - j) % P
-        weights.append(pow(product, P - 2, P))
+        weights.append(pow(product, -1, P))
     return [[weight * pow(i, m, P) % P for i, weight in enumerate(weights, 1)] for m in range(n - t - 1)]
 
 
 def syndrome_of(values, t):
-    return [sum(a * b for a, b in zip(row, values)) % P for row in check_rows(len(values), t)]
+    return [product(row, values) for row in check_rows(len(values), t)]
 
 
-def solved(rows, right):
-    """The numbers whose products with the columns add up to the right side, or None. The columns are independent."""
-    rows, count = [list(row) + [value] for row, value in zip(rows, right)], len(rows[0])
+@functools.lru_cache(maxsize=None)
+def solver_at(n, t, places):
+    """How the entries at these places follow from their syndrome: for each entry what it takes of each part of the
+    syndrome, and the sums of such parts that have to be 0. The columns of the check at few places are independent."""
+    checks, count = check_rows(n, t), len(places)
+    rows = [
+        [check[place] for place in places] + [int(at == other) for other in range(len(checks))]
+        for at, check in enumerate(checks)
+    ]
     for column in range(count):
         pivot = next(at for at in range(column, len(rows)) if rows[at][column])
         rows[column], rows[pivot] = rows[pivot], rows[column]
-        scale = pow(rows[column][column], P - 2, P)
+        scale = pow(rows[column][column], -1, P)
         rows[column] = [value * scale % P for value in rows[column]]
         for at, row in enumerate(rows):
             if at != column:
                 rows[at] = [(a - row[column] * b) % P for a, b in zip(row, rows[column])]
-    return None if any(row[count] for row in rows[count:]) else [row[count] for row in rows[:count]]
+    parts = [row[count:] for row in rows]
+    return parts[:count], parts[count:]
 
 
 def error_of(syndrome, n, t):
     """The vector with at most t entries other than 0 that has this syndrome, or None: each t places are tried."""
-    rows = check_rows(n, t)
     for places in itertools.combinations(range(n), t):
-        found = solved([[row[place] for place in places] for row in rows], syndrome)
-        if found is not None:
-            error = dict(zip(places, found))
+        entries, nothing = solver_at(n, t, places)
+        if not any(product(parts, syndrome) for parts in nothing):
+            error = {place: product(parts, syndrome) for place, parts in zip(places, entries)}
             return [error.get(place, 0) for place in range(n)]
     return None
 
@@ -112,36 +177,74 @@ def error_of(syndrome, n, t):
 # ChaCha20 and what is drawn from it.
 
 
-def rotated(word, count):
-    return ((word << count) | (word >> (32 - count))) & 0xFFFFFFFF
+# A row of the state has four words, and a row of sixteen blocks beside one another is one number here: each word in a
+# place of 64 bits, the words of the first block lowest. So each step is taken in all columns of all blocks at once.
+
+BLOCKS = 16
 
 
-def quarter_round(state, a, b, c, d):
-    for first, second, third, count in ((a, b, d, 16), (c, d, b, 12), (a, b, d, 8), (c, d, b, 7)):
-        state[first] = (state[first] + state[second]) & 0xFFFFFFFF
-        state[third] = rotated(state[third] ^ state[first], count)
+def in_each_block(*places):
+    """The words of so many places of four, all bits set, in each block."""
+    return sum(0xFFFFFFFF << 64 * (4 * block + place) for block in range(BLOCKS) for place in places)
 
 
-def chacha_block(seed, counter, stream):
-    """The sixteen words of a block. The seed is the key; counter and stream are the last four words, each low first."""
-    start = [0x61707865, 0x3320646E, 0x79622D32, 0x6B206574]
-    start += [int.from_bytes(seed[at : at + 4], "little") for at in range(0, 32, 4)]
-    start += [counter & 0xFFFFFFFF, counter >> 32, stream & 0xFFFFFFFF, stream >> 32]
-    state = list(start)
+ALL_WORDS = in_each_block(0, 1, 2, 3)
+BELOW = {count: in_each_block(*range(count)) for count in (1, 2, 3)}
+ABOVE = {count: in_each_block(*range(4 - count)) for count in (1, 2, 3)}
+
+
+def rotated(row, count):
+    """Each word turned left by so many bits."""
+    return ((row << count) | (row >> (32 - count))) & ALL_WORDS
+
+
+def shifted(row, count):
+    """The words of each block moved down by so many places, the lowest to the top."""
+    return (row >> 64 * count) & ABOVE[count] | (row & BELOW[count]) << 64 * (4 - count)
+
+
+def quarter_rounds(a, b, c, d):
+    a = (a + b) & ALL_WORDS
+    d = rotated(d ^ a, 16)
+    c = (c + d) & ALL_WORDS
+    b = rotated(b ^ c, 12)
+    a = (a + b) & ALL_WORDS
+    d = rotated(d ^ a, 8)
+    c = (c + d) & ALL_WORDS
+    return a, rotated(b ^ c, 7), c, d
+
+
+def row_of_words(words):
+    return int.from_bytes(struct.pack(f"<{4 * BLOCKS}Q", *words), "little")
+
+
+def chacha_blocks(seed, first, stream):
+    """The words of sixteen blocks, the first of them with the counter `first`. The seed is the key; counter and stream
+    are the last four words, each low first."""
+    key = struct.unpack("<8I", seed)
+    ends = [
+        part & 0xFFFFFFFF
+        for counter in range(first, first + BLOCKS)
+        for part in (counter, counter >> 32, stream, stream >> 32)
+    ]
+    heads = (0x61707865, 0x3320646E, 0x79622D32, 0x6B206574), key[:4], key[4:]
+    start = [row_of_words(head * BLOCKS) for head in heads] + [row_of_words(ends)]
+    a, b, c, d = start
     for _ in range(10):
-        for column in range(4):
-            quarter_round(state, column, 4 + column, 8 + column, 12 + column)
-        for column in range(4):
-            quarter_round(
-                state, column, 4 + (column + 1) % 4, 8 + (column + 2) % 4, 12 + (column + 3) % 4
-            )
-    return [(a + b) & 0xFFFFFFFF for a, b in zip(state, start)]
+        a, b, c, d = quarter_rounds(a, b, c, d)
+        a, b, c, d = quarter_rounds(a, shifted(b, 1), shifted(c, 2), shifted(d, 3))
+        b, c, d = shifted(b, 3), shifted(c, 2), shifted(d, 1)
+    rows = [
+        struct.unpack(f"<{4 * BLOCKS}Q", ((row + old) & ALL_WORDS).to_bytes(32 * BLOCKS, "little"))
+        for row, old in zip((a, b, c, d), start)
+    ]
+    return [word for at in range(0, 4 * BLOCKS, 4) for row in rows for word in row[at : at + 4]]
 
 
 def chacha_words(seed, stream=0):
     """The words of all blocks, one after another."""
-    for counter in itertools.count():
-        yield from chacha_block(seed, counter, stream)
+    for first in itertools.count(0, BLOCKS):
+        yield from chacha_blocks(seed, first, stream)
 
 
 def drawn(words):
@@ -157,6 +260,7 @@ def drawn(words):
 # Grids: c[a][b] is the coefficient of x^a * y^b.
 
 
+@functools.lru_cache(maxsize=1024)
 def drawn_grids(seed, degree):
     """The five grids of a member, lane by lane."""
     words = chacha_words(seed)
@@ -166,12 +270,19 @@ def drawn_grids(seed, degree):
 
 def grids_with(constants, seed, degree):
     """The five grids with these constants; all other coefficients are drawn."""
-    words = chacha_words(seed)
     size = degree + 1
+    places = [(lane, a, b) for lane in range(5) for a in range(size) for b in range(size) if (a, b) != (0, 0)]
+    others = dict(zip(places, drawn_list(seed, len(places))))
     return [
-        [[drawn(words) if (a, b) != (0, 0) else constant for b in range(size)] for a in range(size)]
-        for constant in constants
+        [[others.get((lane, a, b), constant) for b in range(size)] for a in range(size)]
+        for lane, constant in enumerate(constants)
     ]
+
+
+@functools.lru_cache(maxsize=1024)
+def drawn_list(seed, count):
+    words = chacha_words(seed)
+    return [drawn(words) for _ in range(count)]
 
 
 def row_of(grid, j):
@@ -380,6 +491,7 @@ class Setting:
         self.receivers, self.bound, self.degree = receivers, bound, degree
         self.dealers, self.shift, self.checks = dealers, shift, checks
         self.seats, self.rounds, self.instances = shift + receivers, 6 if checks else 5, 5 * dealers
+        self.beside = row_of_so_many(self.instances)
 
     def deals(self, seat):
         return seat <= self.dealers
@@ -461,137 +573,172 @@ def read_drill(text, setting, bounds):
     return drill
 
 
-# One seat of a sharing. A post is None (nothing), or a value of the round's shape; so is a ring message. Instances are
-# numbered from 0: the dealer's number less one, times five, plus the lane. A dealer has grids, a receiver its number `me`.
+# What the seats of a phase hear alike, and one seat. A post is None (nothing), or a value of the round's shape; so is a
+# ring message. Instances are numbered from 0: the dealer's number less one, times five, plus the lane. A dealer has
+# grids, a receiver its number `me`.
+
+
+class Board:
+    """The posts, which all seats hear alike, and what follows from them for each instance."""
+
+    def __init__(self, setting):
+        self.setting = setting
+        self.complaints = [{} for _ in range(setting.instances)]
+        self.revealed = [{} for _ in range(setting.instances)]
+        self.accepted = self.syndromes = None
+
+    def of_receivers(self, heard):
+        """What is heard by receiver, of what is heard by seat."""
+        return {j: heard.get(self.setting.shift + j) for j in range(1, self.setting.receivers + 1)}
+
+    def hear_complaints(self, posts):
+        """The pair that a receiver tells, by it and whom it complains of."""
+        for j, post in self.of_receivers(posts).items():
+            for (instance, k), pair in (post or {}).items():
+                self.complaints[instance][j, k] = pair
+
+    def hear_reveals(self, posts):
+        """The row and the column, by receiver."""
+        for dealer, post in posts.items():
+            for (lane, j), pair in (post or {}).items():
+                self.revealed[(dealer - 1) * 5 + lane][j] = pair
+        self.settled = [self.is_settled(instance) for instance in range(self.setting.instances)]
+
+    def is_settled(self, instance):
+        """Whether two receivers that complain of each other tell the same, or one of them is revealed."""
+        complaints, revealed = self.complaints[instance], self.revealed[instance]
+        for (k, j), (u, v) in complaints.items():
+            other = complaints.get((j, k))
+            if other not in (None, (v, u)) and k not in revealed and j not in revealed:
+                return False
+        return True
+
+    def hear_votes(self, posts):
+        needed = self.setting.receivers - self.setting.bound
+        heard = [votes for votes in self.of_receivers(posts).values() if votes]
+        self.accepted = [sum(votes) >= needed for votes in zip([False] * self.setting.instances, *heard)]
+
+    def hear_syndromes(self, posts):
+        self.syndromes = self.of_receivers(posts)
 
 
 class Seat:
     def __init__(self, setting, number, grids):
         self.setting, self.number, self.grids = setting, number, grids
         self.me = number - setting.shift if setting.receives(number) else None
-        self.zero = [0] * (setting.degree + 1)
+        self.dealt, self.all_parts, self.board = {}, None, None
+        if grids:
+            self.size = len(grids[0])
+            self.row_values = Beside([coefficients for grid in grids for coefficients in grid])
+            self.column_values = Beside([coefficients for grid in grids for coefficients in zip(*grid)])
 
     def receivers(self):
         return range(1, self.setting.receivers + 1)
-
-    def of_receivers(self, heard):
-        """What is heard by receiver, of what is heard by seat."""
-        return {j: heard[self.setting.shift + j] for j in self.receivers()}
 
     # What it says.
 
     def deal_for(self, j):
         """The row and the column for a receiver, lane by lane."""
-        return [(row_of(grid, j), column_of(grid, j)) for grid in self.grids]
+        if j not in self.dealt:
+            beside, size = self.row_values.row, self.size
+            row, column = (list(beside.listed(values.at(j))) for values in (self.row_values, self.column_values))
+            self.dealt[j] = [(row[at : at + size], column[at : at + size]) for at in range(0, 5 * size, size)]
+        return self.dealt[j]
 
     def cross_for(self, j):
-        return [(value_at(row, j), value_at(column, j)) for row, column in self.held]
+        """The values at a receiver of all rows that it holds, and of all columns: two rows of numbers."""
+        return self.own[j]
+
+    def pairs_for(self, j):
+        """The same as pairs, by instance."""
+        if j not in self.own_pairs:
+            self.own_pairs[j] = list(zip(*map(self.setting.beside.listed, self.own[j])))
+        return self.own_pairs[j]
 
     def complaints(self):
         """The pair of values that it holds, by instance and the receiver that it complains of."""
         found = {}
-        for instance, (row, column) in enumerate(self.held):
-            for k in self.receivers():
-                own = (value_at(row, k), value_at(column, k))
-                told = own if k == self.me else self.crossed[k] and self.crossed[k][instance]
-                if told != (own[1], own[0]):
-                    found[instance, k] = own
+        for k in self.receivers():
+            own = self.own[k]
+            told = own if k == self.me else self.crossed[k]
+            if told and (told[1], told[0]) == own:
+                continue
+            rows, columns = map(self.setting.beside.listed, told or (0, 0))
+            for instance, pair in enumerate(self.pairs_for(k)):
+                if not told or (columns[instance], rows[instance]) != pair:
+                    found[instance, k] = pair
         return found
 
     def reveals(self):
         """The row and the column, by lane and receiver."""
         found = {}
-        for lane, grid in enumerate(self.grids):
-            instance = (self.number - 1) * 5 + lane
-            for j in self.receivers():
-                row, column = row_of(grid, j), column_of(grid, j)
-                for (where, k), told in self.heard_complaints[j].items():
-                    if where == instance and told != (value_at(row, k), value_at(column, k)):
-                        found[lane, j] = (row, column)
+        for lane in range(5):
+            for (j, k), told in self.board.complaints[(self.number - 1) * 5 + lane].items():
+                row, column = self.deal_for(j)[lane]
+                if told != (value_at(row, k), value_at(column, k)):
+                    found[lane, j] = (row, column)
         return found
 
     def votes(self):
         return [self.votes_for(instance) for instance in range(self.setting.instances)]
 
     def votes_for(self, instance):
-        revealed = self.revealed(instance)
-        row, column = self.held[instance]
+        revealed = self.board.revealed[instance]
         if self.me in revealed:
             return False
         for k, (its_row, its_column) in revealed.items():
             fits = (value_at(its_column, self.me), value_at(its_row, self.me))
-            if fits != (value_at(row, k), value_at(column, k)):
+            if fits != self.pairs_for(k)[instance]:
                 return False
-        quiet = [k for k in self.receivers() if k not in revealed]
-        return all(self.is_settled(instance, k, j) for k in quiet for j in quiet)
+        return self.board.settled[instance]
 
-    def is_settled(self, instance, k, j):
-        """Two receivers that complain of each other tell the same."""
-        one = self.heard_complaints[k].get((instance, j))
-        other = self.heard_complaints[j].get((instance, k))
-        return one is None or other is None or one == (other[1], other[0])
-
-    def revealed(self, instance):
-        dealer, lane = instance // 5 + 1, instance % 5
-        return {j: pair for (where, j), pair in self.heard_reveals[dealer].items() if where == lane}
-
-    def syndromes(self):
+    def syndromes_told(self):
         """Lane by lane the syndrome of what it has of the dealers."""
         bound = self.setting.dealers - self.setting.checks - 1
         return [value for lane in range(5) for value in syndrome_of(self.parts(lane), bound)]
 
-    # What it hears: by seat, for each seat, with None for what isn't there.
+    # What it hears: by seat, of each seat that is heard.
 
     def hear_deals(self, deals):
-        if self.me is not None:
-            nothing = [(self.zero, self.zero)] * 5
-            if self.grids:
-                deals[self.number] = self.deal_for(self.me)
-            self.held = [pair for i in range(1, self.setting.dealers + 1) for pair in deals[i] or nothing]
+        nothing = [([0] * (self.setting.degree + 1),) * 2] * 5
+        if self.grids:
+            deals[self.number] = self.deal_for(self.me)
+        held = [pair for dealer in range(1, self.setting.dealers + 1) for pair in deals.get(dealer) or nothing]
+        self.rows, columns = zip(*held)
+        row_values, column_values = Beside(self.rows), Beside(columns)
+        self.own = {k: (row_values.at(k), column_values.at(k)) for k in self.receivers()}
+        self.own_pairs = {}
 
     def hear_crosses(self, crosses):
-        self.crossed = self.of_receivers(crosses)
-
-    def hear_complaints(self, posts):
-        self.heard_complaints = {j: post or {} for j, post in self.of_receivers(posts).items()}
-
-    def hear_reveals(self, posts):
-        self.heard_reveals = {seat: post or {} for seat, post in posts.items()}
-
-    def hear_votes(self, posts):
-        needed = self.setting.receivers - self.setting.bound
-        heard = self.of_receivers(posts).values()
-        self.accepted = [
-            sum(bool(votes and votes[instance]) for votes in heard) >= needed
-            for instance in range(self.setting.instances)
-        ]
-
-    def hear_syndromes(self, posts):
-        self.heard_syndromes = self.of_receivers(posts)
+        self.crossed = self.board.of_receivers(crosses)
 
     # What comes of it.
+
+    @property
+    def accepted(self):
+        return self.board.accepted
 
     def share_in(self, instance):
         """Its share of an instance: 0 where it isn't accepted."""
         if not self.accepted[instance]:
             return 0
-        row = self.held[instance][0]
-        return self.revealed(instance).get(self.me, (row, None))[0][0]
+        revealed = self.board.revealed[instance].get(self.me)
+        return (revealed[0] if revealed else self.rows[instance])[0]
 
     def parts(self, lane):
         """Its shares of a lane, by dealer."""
-        return [self.share_in(instance) for instance in range(lane, self.setting.instances, 5)]
+        if self.all_parts is None:
+            self.all_parts = [self.share_in(instance) for instance in range(self.setting.instances)]
+        return self.all_parts[lane::5]
 
     def shares(self):
         return [sum(self.parts(lane)) % P for lane in range(5)]
 
     def opened(self, lane):
         """The opened syndrome of a lane: at each place the value at 0 of what the receivers posted."""
-        checks = self.setting.checks
-        return [
-            nearest([post and post[lane * checks + m] for post in self.heard_syndromes.values()], self.setting.degree)[0]
-            for m in range(checks)
-        ]
+        checks, posts = self.setting.checks, self.board.syndromes.values()
+        places = range(lane * checks, (lane + 1) * checks)
+        return [nearest([post and post[place] for post in posts], self.setting.degree)[0] for place in places]
 
 
 # What a seat says in a round: a post, and a message for each other seat.
@@ -605,11 +752,11 @@ def honest_word(seat, round_number):
         return None, {j: seat.cross_for(j) for j in others if seat.me}
     if not (seat.grids if round_number == 4 else seat.me):
         return None, {}
-    post = (seat.complaints, seat.reveals, seat.votes, seat.syndromes)[round_number - 3]()
+    post = (seat.complaints, seat.reveals, seat.votes, seat.syndromes_told)[round_number - 3]()
     return post, {}
 
 
-def skewed(word, round_number, lowest, k):
+def skewed(word, round_number, lowest, k, beside):
     """The word with k added: to the constants of the rows dealt to the lowest other receiver, to the first values of the
     pairs for it, to the constants of the rows that are revealed, or to all values of the syndromes."""
     post, rings = word
@@ -619,15 +766,14 @@ def skewed(word, round_number, lowest, k):
         dealt = [([(row[0] + k) % P] + row[1:], column) for row, column in rings[lowest]]
         return post, {**rings, lowest: dealt}
     if round_number == 2:
-        return post, {**rings, lowest: [((u + k) % P, v) for u, v in rings[lowest]]}
+        firsts, seconds = rings[lowest]
+        return post, {**rings, lowest: (beside.reduced(firsts + k * beside.ones), seconds)}
     return {at: ([(row[0] + k) % P] + row[1:], column) for at, (row, column) in post.items()}, rings
 
 
 def accusing(seat, post, j):
     """The complaints with one against j in each instance, whose first value is one too great."""
-    false = {
-        (instance, j): ((u + 1) % P, v) for instance, (u, v) in enumerate(seat.cross_for(j))
-    }
+    false = {(instance, j): ((u + 1) % P, v) for instance, (u, v) in enumerate(seat.pairs_for(j))}
     return {**post, **false}
 
 
@@ -640,7 +786,7 @@ def drilled_word(seat, round_number, verb, argument):
         return None, {}
     post, rings = honest_word(seat, round_number)
     if verb == "skew":
-        return skewed((post, rings), round_number, 2 if seat.me == 1 else 1, argument[0])
+        return skewed((post, rings), round_number, 2 if seat.me == 1 else 1, argument[0], seat.setting.beside)
     if verb == "accuse":
         return accusing(seat, post, argument[0]), rings
     if verb == "wrong":
@@ -649,37 +795,56 @@ def drilled_word(seat, round_number, verb, argument):
     return [False] * seat.setting.instances, rings
 
 
-HEARD_IN = (
-    Seat.hear_deals,
-    Seat.hear_crosses,
-    Seat.hear_complaints,
-    Seat.hear_reveals,
-    Seat.hear_votes,
-    Seat.hear_syndromes,
-)
+def word_of(seat, round_number, drill):
+    """What a seat says, or None where it passes or speaks too late."""
+    line = drill.get((seat.number, round_number))
+    return drilled_word(seat, round_number, line[0], line[1:]) if line else honest_word(seat, round_number)
 
 
-def play(setting, seats, drill):
+class NotAllowed(Exception):
+    """Masks that the words of the seats don't allow."""
+
+
+def heard_words(alive, round_number, drill, mask, cut):
+    """The words of the seats that are heard, by seat. Where a mask is given, it tells whether those are that post late
+    and those that are cut, and it has to be one that the words allow. Without one they aren't heard."""
+    words = {}
+    for seat in alive:
+        late = drill.get((seat.number, round_number), ("",))[0] == "late"
+        free = late or (round_number, seat.number) in cut
+        word = honest_word(seat, round_number) if late else word_of(seat, round_number, drill)
+        may_be = word is not None
+        heard = may_be and not free if mask is None else bool(mask >> (seat.number - 1) & 1)
+        if heard and not may_be or may_be and not heard and not free:
+            raise NotAllowed
+        if heard:
+            words[seat.number] = word
+    if mask is not None and mask != mask_of(words):
+        raise NotAllowed
+    return words
+
+
+def play(setting, seats, drill, given=None, cut=()):
     """Plays the rounds of a phase. A seat that isn't among the seats given passes in every round. The answer is the masks.
-    Who isn't in a mask is out from then on."""
-    masks, alive = [], list(seats)
+    Who isn't in a mask is out from then on. Where masks are given, they tell who is heard of those that post late, and
+    of those that are cut, by round and seat."""
+    board, masks, alive = Board(setting), [], list(seats.values())
+    if given is not None and len(given) != setting.rounds:
+        raise NotAllowed
+    for seat in alive:
+        seat.board = board
     for round_number in range(1, setting.rounds + 1):
-        words = {}
-        for me in alive:
-            line = drill.get((me, round_number))
-            word = honest_word(seats[me], round_number) if line is None else drilled_word(
-                seats[me], round_number, line[0], line[1:]
-            )
-            if word is not None:
-                words[me] = word
-        alive = list(words)
-        masks.append(sum(1 << (me - 1) for me in alive))
-        for seat in seats.values():
-            if round_number < 3:
-                rings = {i: word[1].get(seat.me) for i, word in words.items()}
-            else:
-                rings = {i: word[0] for i, word in words.items()}
-            HEARD_IN[round_number - 1](seat, {i: rings.get(i) for i in range(1, setting.seats + 1)})
+        words = heard_words(alive, round_number, drill, given and given[round_number - 1], cut)
+        alive = [seats[number] for number in words]
+        masks.append(mask_of(words))
+        if round_number < 3:
+            for seat in seats.values():
+                if seat.me is not None:
+                    told = {number: word[1].get(seat.me) for number, word in words.items()}
+                    (seat.hear_deals if round_number == 1 else seat.hear_crosses)(told)
+        else:
+            hear = (board.hear_complaints, board.hear_reveals, board.hear_votes, board.hear_syndromes)[round_number - 3]
+            hear({number: word[0] for number, word in words.items()})
     return masks
 
 
@@ -687,10 +852,12 @@ def play(setting, seats, drill):
 
 
 class World:
-    """A shelf, an entropy, a crew and a sink, whose calls with listed numbers fail and then change nothing."""
+    """A shelf, an entropy, a crew and a sink, whose calls with listed numbers fail and then change nothing; who is cut,
+    by round and seat; and the masks of the command's phase, where they are given."""
 
-    def __init__(self, held, seeds, fails):
+    def __init__(self, held, seeds, fails, cut=(), masks=None):
         self.held, self.seeds, self.told = dict(held), list(seeds), ""
+        self.cut, self.masks = frozenset(cut), masks
         self.fails = {kind: set(numbers) for kind, numbers in fails.items()}
         self.calls = {"shelf": 0, "entropy": 0, "crew": 0, "sink": 0}
         self.late = False
@@ -719,11 +886,12 @@ class World:
             raise Refused(11, "entropy")
         return self.seeds.pop(0)
 
-    def start(self, setting, drill):
-        """A thread for each seat of a phase. Whether a seat is heard that posts late hangs on how they run."""
+    def phase(self, setting, seats, drill):
+        """A phase, with a thread for each seat. Whether a seat is heard that posts late hangs on how they run."""
         for _ in range(setting.seats):
             self.call("crew", 12)
         self.late = any(line[0] == "late" for line in drill.values())
+        return play(setting, seats, drill, self.masks, self.cut)
 
     def put_out(self, text):
         self.call("sink", 13)
@@ -815,6 +983,15 @@ def undrilled(drill, seats):
     return [seat for seat in seats if seat not in named]
 
 
+def in_time(masks, seats, needed):
+    """Those of the seats that are in each mask of a phase. It is refused where they are too few."""
+    heard = functools.reduce(operator.and_, masks)
+    found = [seat for seat in seats if heard >> (seat - 1) & 1]
+    if len(found) < needed:
+        raise Refused(5, f"sound {len(found)} needed {needed}")
+    return found
+
+
 def removals(name, period):
     return [(share_name(name, period, index), None) for index in range(1, 16)]
 
@@ -844,9 +1021,8 @@ def create(world, name, n, t, drill_name=None):
     setting = create_setting(n, t)
     drill = drill_held(world, drill_name, setting, [(range(1, n + 1), t)])
     seats = {me: Seat(setting, me, drawn_grids(world.seed(), t)) for me in range(1, n + 1)}
-    world.start(setting, drill)
-    masks = play(setting, seats, drill)
-    sound = undrilled(drill, seats)
+    masks = world.phase(setting, seats, drill)
+    sound = in_time(masks, undrilled(drill, seats), n - t)
     now = name, n, t, 1, 0, link_of(name, n, t, 1, mask_of(sound))
     changes = removals(name, 1) + files_of(now, {me: seats[me].shares() for me in sound})
     texts = [f"create {name} {n} {t} period 1", *phase_texts(masks, seats[sound[0]].accepted)]
@@ -887,15 +1063,12 @@ def refresh(world, name, drill_name=None):
     seats = {
         me: Seat(before.setting, me, drawn_grids(seed, before.setting.degree)) for me, seed in before.seeds.items()
     }
-    world.start(before.setting, before.drill)
-    masks = play(before.setting, seats, before.drill)
-    shares = {
-        me: [(old + me * dealt) % P for old, dealt in zip(before.lanes[me], seats[me].shares())]
-        for me in before.sound
-    }
+    masks = world.phase(before.setting, seats, before.drill)
+    sound = in_time(masks, before.sound, before.n - before.t)
+    shares = {me: [(old + me * dealt) % P for old, dealt in zip(before.lanes[me], seats[me].shares())] for me in sound}
     changes = before.changes(before.n, before.t, shares)
     texts = [f"refresh {name} {before.n} {before.t} period {before.period + 1}"]
-    texts += phase_texts(masks, seats[before.sound[0]].accepted)
+    texts += phase_texts(masks, seats[sound[0]].accepted)
     return changes, lines(texts + [indexes_text("shares", shares)])
 
 
@@ -921,9 +1094,9 @@ def moved_shares(before, seat, errors):
 def move(world, name, m, u, drill_name=None):
     before = Before(world, name, drill_name, lambda n, t: move_setting(n, t, m, u), (m, u))
     n, seats = before.n, moved_seats(before)
-    world.start(before.setting, before.drill)
-    masks = play(before.setting, seats, before.drill)
-    sound = undrilled(before.drill, range(n + 1, n + m + 1))
+    masks = world.phase(before.setting, seats, before.drill)
+    in_time(masks, before.sound, n - before.t)
+    sound = in_time(masks, undrilled(before.drill, range(n + 1, n + m + 1)), m - u)
     first, errors = seats[sound[0]], []
     for lane in range(5):
         syndrome = first.opened(lane)
@@ -1025,10 +1198,18 @@ def digits(data):
 
 
 class Case:
-    def __init__(self, label, words, held=None, seeds=(), **fails):
-        self.label, self.words = label, words.split()
-        self.cut = fails.pop("cut", ())
+    def __init__(self, label, words, held=None, seeds=(), cut=(), masks=None, **fails):
+        self.label, self.words, self.cut, self.masks = label, words.split(), cut, masks
         self.held, self.seeds, self.fails = dict(held or {}), list(seeds), fails
+
+    def under(self, masks):
+        """The same case, where these are the masks of its phase."""
+        return Case(self.label, " ".join(self.words), self.held, self.seeds, self.cut, masks, **self.fails)
+
+    def where_missing(self, pairs):
+        """The same case, where of those that may be heard or not just these aren't, by round and seat, and those that
+        post late."""
+        return Case(self.label, " ".join(self.words), self.held, self.seeds, pairs, **self.fails)
 
     def features(self):
         """What has to be built for this case."""
@@ -1052,9 +1233,14 @@ class Case:
         texts += [f"cut {round_number} {seat}" for round_number, seat in self.cut]
         return texts + ["end"]
 
+    @functools.cached_property
+    def outcome(self):
+        """The world after the command, the status' number and its line."""
+        world = World(self.held, self.seeds, self.fails, self.cut, self.masks)
+        return world, *run(world, self.words)
+
     def ending(self):
-        world = World(self.held, self.seeds, self.fails)
-        code, line = run(world, self.words)
+        world, code, line = self.outcome
         texts = [f"case {self.label}", f"code {code}", f"line {line}".rstrip()]
         texts += ["text " + text for text in world.told.splitlines()]
         texts += [f"held {name} {digits(world.held[name])}" for name in sorted(world.held, key=str.encode)]
@@ -1062,15 +1248,11 @@ class Case:
 
     def hangs_on_the_schedule(self):
         """Whether a seat posts late in its phase: who is heard may then differ from run to run."""
-        world = World(self.held, self.seeds, self.fails)
-        run(world, self.words)
-        return world.late
+        return self.outcome[0].late
 
     def after(self):
         """What is held after the command."""
-        world = World(self.held, self.seeds, self.fails)
-        run(world, self.words)
-        return world.held
+        return dict(self.outcome[0].held)
 
 
 # Material for cases: everything follows from labels by SHA-256.
