@@ -11,6 +11,7 @@ use std::sync::Wait;
 #[derive(Drop)]
 pub struct StillPace {
     tally: Tally,
+    pub ghost none: { tally.answered ≡ 0 },
 }
 
 impl StillPace {

@@ -15,5 +15,6 @@ mod views;
 pub use choices::other_choices;
 pub use history::{History, HistoryFault};
 pub use key::key_of;
+pub use phases::{play_at, shares_left};
 pub use playback::{Phase, PhaseKind, PhaseList, SaidItem, SaidList};
 pub use views::{Views, views_of};

@@ -51,8 +51,8 @@ fn fits_at(phases: &PhaseList, place: usize, shares: &[Option<[Fe; 5]>]) -> bool
     }
 }
 
-// Plays the phase at a place, where it and those before it fit.
-pub(crate) fn play_at(
+/// Plays the phase at a place, counted from 0, where it and those before it fit.
+pub fn play_at(
     alloc: Global,
     phases: &PhaseList,
     place: usize,
@@ -64,8 +64,9 @@ pub(crate) fn play_at(
     play(alloc, phases.at(place))
 }
 
-// The shares that the phase at a place leaves.
-pub(crate) fn shares_left(
+/// The shares that the phase at a place leaves, by the index of the member: five lanes for each that the sharing reached.
+/// `played` is that phase, played, and `before` are the shares that the phases before it left.
+pub fn shares_left(
     alloc: Global,
     phases: &PhaseList,
     place: usize,
