@@ -26,7 +26,7 @@ use Rattle.scenes.specs.Numbers.{seed_of}
 use Rattle.scenes.specs.Orders.{orders_of}
 use Rattle.rehearsal_laws.specs.Standing.{first_seeds}
 use Rattle.rehearsal_laws.specs.Played.{AreUncut, play_under}
-use Rattle.rehearsal_laws.proofs.Downs.{down_on}
+use Rattle.rehearsal_laws.specs.Down.{down_on}
 use Rattle.rehearsal_laws.proofs.Drawn.{drawn_grid}
 use Rattle.rehearsal_laws.proofs.Fitting.{side_committee}
 use Rattle.rehearsal_laws.proofs.Uncut.{play_of_five, down_in_five}
@@ -38,10 +38,10 @@ module _ (number place : ℕ) (side : Side) (shares : List (Option (List Fp))) (
   abbrev orders : List Order
   orders = orders_of (Create side)
 
-  all : length (first_seeds number side.members) ≡ side.members
+  pub all : length (first_seeds number side.members) ≡ side.members
   all = length-map-range_with_len (seed_of number 0) 1 side.members
 
-  begin : Starts member_ways (λ (m x : Member). m ≡ x) side.members side.bound side.bound orders (names orders) (grids_on (dealt_by side.bound seeds)) (members_on (create_shape side.members side.bound) (dealt_by side.bound seeds))
+  pub begin : Starts member_ways (λ (m x : Member). m ≡ x) side.members side.bound side.bound orders (names orders) (grids_on (dealt_by side.bound seeds)) (members_on (create_shape side.members side.bound) (dealt_by side.bound seeds))
   begin = starts side.members side.bound (side_committee side sides.0) orders seeds all
 
   pub create_is_play : IsPlay (play_under number place (Create side) shares masks)

@@ -11,13 +11,7 @@ use Rattle.scenes.specs.declared.scene.Scene.TheVariants.{Create, Refresh, Move}
 use Rattle.scenes.specs.Law.{AreSides}
 use Rattle.scenes.specs.Orders.{shape_of}
 use Rattle.scenes.specs.Scenes.{is_down_on, is_drilled, new_side, old_side}
-
--- who is down on the seats of a phase: who has no shares or is drilled; in a create and on the new side of a move all have
--- none to lack
-abbrev pub down_on : Scene → ℕ → Bool
-down_on (Create side) seat = is_drilled side.drilled seat
-down_on (Refresh side) seat = is_down_on side seat
-down_on (Move old new) seat = cond (leb seat old.members) (is_down_on old seat) (is_drilled new.drilled (seat - old.members))
+use Rattle.rehearsal_laws.specs.Down.{down_on}
 
 -- a later phase is no create
 abbrev pub IsLater : Scene → Type 0
@@ -43,7 +37,7 @@ old_seats (Refresh side) = omega arith
 old_seats (Move old new) = omega arith
 
 -- ---- who is down
-drilled_down : (side : Side) (member : ℕ) → is_drilled side.drilled member ≡ true → is_down_on side member ≡ true
+pub drilled_down : (side : Side) (member : ℕ) → is_drilled side.drilled member ≡ true → is_down_on side member ≡ true
 drilled_down side member e = or_right (has side.shareless member) (is_drilled side.drilled member) e
 
 pub old_on : (old new : Side) (seat : ℕ) → seat ≤ old.members → down_on (Move old new) seat ≡ is_down_on old seat

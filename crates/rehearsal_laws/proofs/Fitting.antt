@@ -22,7 +22,8 @@ use Rattle.scenes.specs.Orders.{shape_of}
 use Rattle.scenes.specs.Scenes.{is_down_on, new_side, old_side}
 use Rattle.commands.proofs.Committees.{committee_of}
 use Rattle.rehearsal_laws.specs.Played.{kind_in}
-use Rattle.rehearsal_laws.proofs.Downs.{down_on, IsLater, receivers_are, bound_is, old_seats, receiver_down, beginner_down, few_receivers, few_beginners}
+use Rattle.rehearsal_laws.specs.Down.{down_on}
+use Rattle.rehearsal_laws.proofs.Downs.{IsLater, receivers_are, bound_is, old_seats, receiver_down, beginner_down, few_receivers, few_beginners}
 
 -- the record is one of the drawn phase, in which they are down who have no shares or are drilled
 pub record IsOf (scene : Scene) (phase : Phase) : Type 0 where
@@ -81,10 +82,10 @@ first_fits side phase sides is = record {
 
 -- ---- a phase and the next
 module _ (scene after : Scene) (phase next : Phase) (later : IsLater after) (follows : Follows scene after) (before : IsOf scene phase) (is : IsOf after next) (sides : AreSides after) where
-  members_stay : (old_side after).members ≡ phase.setting.receivers
+  pub members_stay : (old_side after).members ≡ phase.setting.receivers
   members_stay = follows.members ∙ sym (holders_are scene phase before)
 
-  bound_stays : (old_side after).bound ≡ phase.setting.bound
+  pub bound_stays : (old_side after).bound ≡ phase.setting.bound
   bound_stays = follows.bound ∙ sym (holders_bound scene phase before)
 
   -- who is down among the first seats
@@ -92,11 +93,11 @@ module _ (scene after : Scene) (phase next : Phase) (later : IsLater after) (fol
   down_first k from to =
       is.down_is k from (omega (arith, to, members_stay, old_seats after)) ∙ beginner_down after k later (omega (arith, to, members_stay))
 
-  stays : Within phase.setting.receivers (receivers_down (play_of phase)) (has next.down)
+  pub stays : Within phase.setting.receivers (receivers_down (play_of phase)) (has next.down)
   stays k from to e =
       down_first k from to ∙ follows.stays k from (omega (arith, to, holders_are scene phase before)) (holder_down scene phase before k from to e)
 
-  few_first : how_many (old_side after).members (has next.down) ≤ phase.setting.bound
+  pub few_first : how_many (old_side after).members (has next.down) ≤ phase.setting.bound
   few_first =
       omega (
         arith,

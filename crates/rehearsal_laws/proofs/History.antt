@@ -29,13 +29,13 @@ module _ (members bound number : ℕ) (phases : List Phase) (size : is_size memb
   course = course_of phases []
 
   -- ---- each phase may stand where it stands
-  first : 0 < length phases → FirstFits (kind_of (phase_at phases 0).kind) (play_of (phase_at phases 0))
+  pub first : 0 < length phases → FirstFits (kind_of (phase_at phases 0).kind) (play_of (phase_at phases 0))
   first lt =
       subst (λ (scene : Scene). AreSides scene → IsOf scene (phase_at phases 0) → FirstFits (kind_of (phase_at phases 0).kind) (play_of (phase_at phases 0))) (sym (first_scene members bound number))
       (first_fits (side_drawn number 0 members bound 0) (phase_at phases 0)) (scenes_are members bound number 0 size bounded) (phase_is members bound number phases size bounded are 0 lt)
 
   -- with shares that are those that the phases before leave
-  next : (last : ℕ) → suc last < length phases → (share : ℕ → ℕ → Fp) → ((lane dealer : ℕ) → share_after_phase course are.errors last lane dealer ≡ share lane dealer) →
+  pub next : (last : ℕ) → suc last < length phases → (share : ℕ → ℕ → Fp) → ((lane dealer : ℕ) → share_after_phase course are.errors last lane dealer ≡ share lane dealer) →
       NextFits (kind_of (phase_at phases (suc last)).kind) (play_of (phase_at phases last)) (play_of (phase_at phases (suc last))) share
   next last lt share same =
       next_fits (scene_at members bound number last) (scene_at members bound number (suc last)) (phase_at phases last) (phase_at phases (suc last)) share (later_scene members bound number last) (follows members bound number last)
@@ -43,7 +43,7 @@ module _ (members bound number : ℕ) (phases : List Phase) (size : is_size memb
       (constants_same (scene_at members bound number (suc last)) (phase_at phases (suc last)) (share_after_phase course are.errors last) share (λ lane dealer less. same lane dealer)
       (constants_are members bound number phases size bounded are last lt))
 
-  fits_here : (place : ℕ) → place < length phases → PhaseFits course are.errors place
+  pub fits_here : (place : ℕ) → place < length phases → PhaseFits course are.errors place
   fits_here zero lt = first lt
   fits_here (suc last) lt = next last lt (share_after_phase course are.errors last) (λ lane dealer. refl)
 

@@ -33,7 +33,8 @@ use Rattle.scenes.specs.Lawful.{AreOrders, is_drilled_seat}
 use Rattle.scenes.specs.Scenes.{is_down_on, is_drilled}
 use Rattle.rehearsal_laws.specs.Standing.{now_before, file_with, standing_before, later_seeds}
 use Rattle.rehearsal_laws.specs.Played.{AreUncut, play_under}
-use Rattle.rehearsal_laws.proofs.Downs.{down_on, old_on, new_on, few_receivers}
+use Rattle.rehearsal_laws.specs.Down.{down_on}
+use Rattle.rehearsal_laws.proofs.Downs.{old_on, new_on, few_receivers}
 use Rattle.rehearsal_laws.proofs.Drawn.{drawn_with_grid}
 use Rattle.rehearsal_laws.proofs.Files.{file_at, length_files, down_by_files}
 use Rattle.rehearsal_laws.proofs.Fitting.{side_committee}
@@ -52,13 +53,13 @@ false_unless true h = absurd (h cc)
 false_unless false h = cc
 
 module _ (old new : Side) (sides : AreSides (Move old new)) where
-  named_old : (seat : ℕ) → seat ≤ old.members → is_drilled_seat (Move old new) seat ≡ is_drilled old.drilled seat
+  pub named_old : (seat : ℕ) → seat ≤ old.members → is_drilled_seat (Move old new) seat ≡ is_drilled old.drilled seat
   named_old seat to = first_only (is_drilled old.drilled seat) (ltb old.members seat) (is_drilled new.drilled (seat - old.members)) (le-ltb old.members seat to)
 
-  not_old : (seat : ℕ) → old.members < seat → is_drilled old.drilled seat ≡ false
+  pub not_old : (seat : ℕ) → old.members < seat → is_drilled old.drilled seat ≡ false
   not_old seat behind = false_unless (is_drilled old.drilled seat) (λ drilled. absurd (omega (arith, behind, (sides.0.drilled seat drilled).1)))
 
-  named_new : (seat : ℕ) → old.members < seat → is_drilled_seat (Move old new) seat ≡ is_drilled new.drilled (seat - old.members)
+  pub named_new : (seat : ℕ) → old.members < seat → is_drilled_seat (Move old new) seat ≡ is_drilled new.drilled (seat - old.members)
   named_new seat behind =
       second_only (is_drilled old.drilled seat) (ltb old.members seat) (is_drilled new.drilled (seat - old.members)) (not_old seat behind) (lt-ltb old.members seat behind)
 
@@ -72,7 +73,7 @@ module _ (number place : ℕ) (old new : Side) (lanes : ℕ → List Fp) (sides 
   abbrev seeds : List (List ℕ)
   seeds = later_seeds number place old
 
-  all_files : length st.files ≡ old.members
+  pub all_files : length st.files ≡ old.members
   all_files = length_files (now_before place old) (has old.shareless) lanes old.members
 
   behind_on : (seat : ℕ) → old.members < seat → down_on (Move old new) seat ≡ is_drilled new.drilled (seat - old.members)

@@ -31,7 +31,7 @@ abbrev AgreeTo : List Phase → List Phase → ℕ → Type 0
 AgreeTo phases others n = (place : ℕ) → place < n → phase_at phases place ≡ phase_at others place
 
 -- so they leave the same shares, with the same error vectors
-same_shares : (phases others : List Phase) (errors : ℕ → List (List Fp)) (last : ℕ) → AgreeTo phases others (suc last) → (lane member : ℕ) →
+pub same_shares : (phases others : List Phase) (errors : ℕ → List (List Fp)) (last : ℕ) → AgreeTo phases others (suc last) → (lane member : ℕ) →
     share_after_phase (course_of phases []) errors last lane member ≡ share_after_phase (course_of others []) errors last lane member
 same_shares phases others errors zero agree lane member = ap (λ (p : Phase). share_after_phase (course_of (p ∷ []) []) errors 0 lane member) (agree 0 (omega arith))
 same_shares phases others errors (suc last) agree lane member =
@@ -41,7 +41,7 @@ same_shares phases others errors (suc last) agree lane member =
 module _ (members bound number : ℕ) (phases others : List Phase) (size : is_size members ≡ true) (bounded : is_bound members bound ≡ true) (long : length phases ≡ length others)
     (are : ArePhases members bound number phases) (also : ArePhases members bound number others) where
   -- the error vectors of the ones are error vectors of the others
-  fits_others : (n : ℕ) → n ≤ length others → AgreeTo phases others n → FitsTo (course_of others []) are.errors n
+  pub fits_others : (n : ℕ) → n ≤ length others → AgreeTo phases others n → FitsTo (course_of others []) are.errors n
   fits_others zero le agree = record { phases_fit = λ place lt. absurd (omega (arith, lt)); have_errors = λ place lt. absurd (omega (arith, lt)) }
   fits_others (suc n) le agree =
       let before : FitsTo (course_of others []) are.errors n = fits_others n (omega (arith, le)) (λ place lt. agree place (omega (arith, lt))) in
@@ -56,13 +56,13 @@ module _ (members bound number : ℕ) (phases others : List Phase) (size : is_si
             subst (λ (p : Phase). kind_of p.kind ≡ Moved → HasErrors (play_of p) (are.errors place)) (agree place lt) (are.have_errors place (omega (arith, lt, le, long)));
       }
 
-  shares_agree : (last : ℕ) → suc last ≤ length others → AgreeTo phases others (suc last) → (lane member : ℕ) →
+  pub shares_agree : (last : ℕ) → suc last ≤ length others → AgreeTo phases others (suc last) → (lane member : ℕ) →
       share_after_phase (course_of phases []) are.errors last lane member ≡ share_after_phase (course_of others []) also.errors last lane member
   shares_agree last le agree lane member =
       same_shares phases others are.errors last agree lane member
       ∙ one_share (course_of others []) are.errors also.errors (suc last) (fits_others (suc last) le agree) (fit_together members bound number others size bounded also (suc last) le) last lane member (omega arith)
 
-  lanes_agree : (last : ℕ) → suc last ≤ length others → AgreeTo phases others (suc last) → lanes_after (course_of phases []) are.errors last ≡ lanes_after (course_of others []) also.errors last
+  pub lanes_agree : (last : ℕ) → suc last ≤ length others → AgreeTo phases others (suc last) → lanes_after (course_of phases []) are.errors last ≡ lanes_after (course_of others []) also.errors last
   lanes_agree last le agree = ap (λ (share : ℕ → ℕ → Fp). let lanes : ℕ → List Fp = λ member. map (λ lane. share lane member) (places 5) in lanes) (λ i lane member. shares_agree last le agree lane member i)
 
   -- so the next ones are the same

@@ -31,13 +31,14 @@ use Rattle.scenes.proofs.Sides.{scenes_are}
 use Rattle.rehearsal_laws.specs.Played.{IsPlayed, kind_in, play_under}
 use Rattle.rehearsal_laws.specs.Rehearsal.{ArePhases, lanes_after}
 use Rattle.rehearsal_laws.proofs.Created.{create_is_play, create_down, create_has_grids}
-use Rattle.rehearsal_laws.proofs.Downs.{IsLater, down_on}
+use Rattle.rehearsal_laws.specs.Down.{down_on}
+use Rattle.rehearsal_laws.proofs.Downs.{IsLater}
 use Rattle.rehearsal_laws.proofs.Fitting.{IsOf, HasConstants}
 use Rattle.rehearsal_laws.proofs.Moved.{move_constants, move_is_play, move_down, move_has_grids}
 use Rattle.rehearsal_laws.proofs.Refreshed.{refresh_is_play, refresh_down, refresh_has_grids}
 
 -- ---- the record of a play
-is_of : (scene : Scene) (play : Play) (phase : Phase) → IsPlay play → HasGrids play → play.shape ≡ shape_of scene →
+pub is_of : (scene : Scene) (play : Play) (phase : Phase) → IsPlay play → HasGrids play → play.shape ≡ shape_of scene →
     ((seat : ℕ) → 1 ≤ seat → seat ≤ seats (shape_of scene) → play.down seat ≡ down_on scene seat) → IsRecordOf (kind_in scene) play phase → IsOf scene phase
 is_of scene play phase is grids shape down recorded = record {
   kind_is = recorded.kind_is;
@@ -48,7 +49,7 @@ is_of scene play phase is grids shape down recorded = record {
 }
 
 -- its grids are those of the play
-grid_there : (kind : PhaseKind) (play : Play) (phase : Phase) → Lawful play.shape → IsRecordOf kind play phase → (i : ℕ) → i < instances play.shape → play.down (dealer_of i) ≡ false →
+pub grid_there : (kind : PhaseKind) (play : Play) (phase : Phase) → Lawful play.shape → IsRecordOf kind play phase → (i : ℕ) → i < instances play.shape → play.down (dealer_of i) ≡ false →
     (play_of phase).grid i ≡ play.grid i
 grid_there kind play phase lawful recorded i lt up =
     ap₂ (λ (s : Shape) (grids : List (List (List Fp))). cond (is_dealt s phase.down i) (get_or grids (grid_place phase.down i) []) []) recorded.setting_is recorded.grids_are
@@ -75,7 +76,7 @@ played_is number place (Move old new) lanes phase sides told played =
     is_of (Move old new) _ phase (move_is_play number place old new lanes sides told played.masks played.uncut) (move_has_grids number place old new lanes sides told played.masks played.uncut) refl
     (move_down number place old new lanes sides told played.masks played.uncut) played.record_is
 
-played_constants : (number place : ℕ) (scene : Scene) (lanes : ℕ → List Fp) (phase : Phase) → AreSides scene → AreOrders scene → IsBegun number place scene lanes phase → HasConstants scene phase (own_lane lanes)
+pub played_constants : (number place : ℕ) (scene : Scene) (lanes : ℕ → List Fp) (phase : Phase) → AreSides scene → AreOrders scene → IsBegun number place scene lanes phase → HasConstants scene phase (own_lane lanes)
 played_constants number place (Create side) lanes phase sides told played = tt
 played_constants number place (Refresh side) lanes phase sides told played = tt
 played_constants number place (Move old new) lanes phase sides told played = λ dealer lane from to lt up.

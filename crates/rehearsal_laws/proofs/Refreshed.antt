@@ -25,7 +25,7 @@ use Rattle.scenes.specs.Law.{AreSides}
 use Rattle.scenes.specs.Lawful.{AreOrders}
 use Rattle.rehearsal_laws.specs.Standing.{now_before, standing_before, later_seeds}
 use Rattle.rehearsal_laws.specs.Played.{AreUncut, play_under}
-use Rattle.rehearsal_laws.proofs.Downs.{down_on}
+use Rattle.rehearsal_laws.specs.Down.{down_on}
 use Rattle.rehearsal_laws.proofs.Drawn.{drawn_grid}
 use Rattle.rehearsal_laws.proofs.Files.{length_files, down_by_files}
 use Rattle.rehearsal_laws.proofs.Fitting.{side_committee}
@@ -42,13 +42,13 @@ module _ (number place : ℕ) (side : Side) (lanes : ℕ → List Fp) (sides : A
   abbrev seeds : List (List ℕ)
   seeds = later_seeds number place side
 
-  committee : IsCommittee side.members side.bound
+  pub committee : IsCommittee side.members side.bound
   committee = side_committee side sides.0
 
   abbrev own : ℕ → List (List (List Fp))
   own seat = (held_on (holdings_in st seeds) seat).grids
 
-  begin : Starts (part_ways keeper_ways) (part_is (IsKeeper (λ j. old_shares st seeds j))) side.members side.bound (side.bound - 1) st.orders (down_in st) own (keepers_on (setting_of st) (holdings_in st seeds))
+  pub begin : Starts (part_ways keeper_ways) (part_is (IsKeeper (λ j. old_shares st seeds j))) side.members side.bound (side.bound - 1) st.orders (down_in st) own (keepers_on (setting_of st) (holdings_in st seeds))
   begin = starts st committee (length_files (now_before place side) (has side.shareless) lanes side.members) seeds
 
   pub refresh_is_play : IsPlay (play_under number place (Refresh side) (shares_given (has side.shareless) lanes side.members) masks)

@@ -44,7 +44,7 @@ module _ (one other : ℕ → Fp) (same : (lane : ℕ) → lane < 5 → one lane
       (λ i place. phase_same (phase_at history.phases place) (has (mask_at history.exposed (place - 1))) (has (mask_at history.exposed place)) i)
 
 -- a lane of the wished key
-raised_at : (key : List Fp) (lane : ℕ) → lane < 5 → get_or (raised key) lane zeroₚ ≡ get_or key lane zeroₚ +ₚ oneₚ
+pub raised_at : (key : List Fp) (lane : ℕ) → lane < 5 → get_or (raised key) lane zeroₚ ≡ get_or key lane zeroₚ +ₚ oneₚ
 raised_at key lane lt = get_or-map-range_with_len (λ k. get_or key k zeroₚ +ₚ oneₚ) 0 5 lane lane zeroₚ lt (omega arith)
 
 module _ (members bound periods number : ℕ) (history other again another : HistoryValue) (accepted counted : List ℕ) (size : is_size members ≡ true) (bounded : is_bound members bound ≡ true)
@@ -59,7 +59,7 @@ module _ (members bound periods number : ℕ) (history other again another : His
   counts_same = also.accepted_is ∙ ap accepted_in phases_same ∙ sym is.accepted_is
 
   -- its keys agree
-  keys_same : (key wished : List Fp) → HasKey (meant history) key → HasKey (meant history) wished → (lane : ℕ) → lane < 5 → get_or key lane zeroₚ ≡ get_or wished lane zeroₚ
+  pub keys_same : (key wished : List Fp) → HasKey (meant history) key → HasKey (meant history) wished → (lane : ℕ) → lane < 5 → get_or key lane zeroₚ ≡ get_or wished lane zeroₚ
   keys_same key wished has_one has_other lane lt =
       one_key (meant history) lane (get_or key lane zeroₚ) (get_or wished lane zeroₚ)
       ((fit_together members bound number history.phases size bounded is.phases 1 (omega (arith, is.count))).phases_fit 0 (omega arith)) (has_one.first lane lt) (has_other.first lane lt)

@@ -1,4 +1,5 @@
 pub mod Standing
+pub mod Down
 pub mod Played
 pub mod Rehearsal
 pub mod Laws
