@@ -52,11 +52,7 @@ fn fits_at(phases: &PhaseList, place: usize, shares: &[Option<[Fe; 5]>]) -> bool
 }
 
 /// Plays the phase at a place, counted from 0, where it and those before it fit.
-pub fn play_at(
-    alloc: Global,
-    phases: &PhaseList,
-    place: usize,
-) -> Result<Played, OutOfMemory>
+pub fn play_at(alloc: Global, phases: &PhaseList, place: usize) -> Result<Played, OutOfMemory>
     requires place { place < length phases.now }
     requires fits { (k : ℕ) → k ≤ place → FitsAt phases.now k }
     ensures { IfOk result (IsPlayed (play_of (phase_at phases.now place))) }
