@@ -89,6 +89,7 @@ class Scene:
         else:
             lines = old.line(AMONG)
         self.drill = "\n".join(lines)
+        self.seats = old.members + (new.members if kind == "move" else 0)
 
 
 def scenes_of(members, bound, periods, number):

@@ -7,7 +7,7 @@
 
 The first form writes the cases to the file STDIN and what must become of them to the file STDOUT. `--without` leaves
 features out, parted by commas, for an implementation that has fewer: `sizes` (create with other sizes than 4 1), `drills`,
-`seal` (seal and open), `refresh`, `move`. `--only WORD` writes the cases whose label has the word in it. The second form
+`seal` (seal and open), `refresh`, `move`, `rehearse`. `--only WORD` writes the cases whose label has the word in it. The second form
 writes the sample shelves whose files are of version 2 into the folder. The third form computes values that others
 published or worked out by hand, and says whether they come out.
 
@@ -1143,6 +1143,24 @@ def open_box(world, name, box_name, doc_name):
     return [(doc_name, doc)], lines([f"open {name} number {number} bytes {len(doc)}"])
 
 
+def rehearse(world, *values):
+    """A key's whole life, over no shelf and no entropy: in each phase a thread is started for each seat."""
+    from rehearse import rehearsed, scenes_of
+
+    for scene in scenes_of(*values):
+        for _ in range(scene.seats):
+            world.call("crew", 12)
+    return [], lines(rehearsed(*values)[0])
+
+
+def rehearse_words(rest):
+    """A size, a bound, how many periods come after the first, and the number that all is drawn from."""
+    from rehearse import words_read
+
+    values = words_read(rest)
+    return values and (lambda world: rehearse(world, *values))
+
+
 def is_file_word(word):
     data = word.encode()
     ends = word.endswith(".now") or word.endswith(".share")
@@ -1164,6 +1182,8 @@ def command_of(words):
     first, rest = (words[0], words[1:]) if words else ("", [])
     if first in ("create", "move"):
         return sized_words({"create": create, "move": move}[first], rest)
+    if first == "rehearse":
+        return rehearse_words(rest)
     if not rest or not is_name(rest[0]):
         return None
     if first == "refresh" and len(rest) <= 2 and all(map(is_file_word, rest[1:])):
@@ -1213,7 +1233,7 @@ class Case:
 
     def features(self):
         """What has to be built for this case."""
-        found, words = {word for word in ("refresh", "move") if self.label.startswith(word)}, self.words
+        found, words = {word for word in ("refresh", "move", "rehearse") if self.label.startswith(word)}, self.words
         if command_of(words) is not None:
             if words[0] == "create" and words[2:4] != ["4", "1"]:
                 found.add("sizes")
@@ -2208,6 +2228,21 @@ def move_life_cases():
     yield Case("move_life_then_check", "check k1", third.after())
 
 
+def rehearse_cases():
+    """Lives of keys from a number, with nothing on the shelf, something there, and an outside that fails."""
+    lives = ("4 1 1 0", "4 1 1 4294967295", "4 1 8 1", "4 1 5 123456789", "5 1 4 2", "7 1 3 3", "7 2 7 4", "10 1 3 5")
+    lives += ("10 2 4 6", "10 3 3 7", "13 1 2 8", "13 4 6 9")
+    for number, words in enumerate(lives):
+        yield Case(f"rehearse_{number}", "rehearse " + words)
+    for number, words in enumerate(("4 1 0 0", "4 1 65 0", "4 1 1 4294967296", "4 2 1 0", "6 1 1 0", "4 1 1", "k1 4 1 1 0")):
+        yield Case(f"rehearse_usage_{number}", "rehearse " + words)
+    words = "rehearse 4 1 3 2"
+    yield Case("rehearse_beside_a_key", words, Key(4, 1).files, seeds_for("rehearse", 4), shelf=[0], entropy=[0])
+    yield Case("rehearse_sink_fails", words, sink=[0])
+    for number in (0, 3, 4, 20, 21):
+        yield Case(f"rehearse_crew_fails_{number}", words, Key(4, 1).files if number == 4 else None, crew=[number])
+
+
 def all_cases():
     for cases in (
         recover_cases,
@@ -2227,6 +2262,7 @@ def all_cases():
         open_cases,
         refresh_cases,
         move_cases,
+        rehearse_cases,
     ):
         yield from cases()
 
@@ -2496,7 +2532,7 @@ def session_checks():
 
 
 # What may be left out.
-FEATURES = {"sizes", "drills", "seal", "refresh", "move"}
+FEATURES = {"sizes", "drills", "seal", "refresh", "move", "rehearse"}
 
 
 def check_all():
