@@ -1,0 +1,3 @@
+pub mod Text
+pub mod Printed
+pub mod Law
