@@ -47,6 +47,7 @@ module _ (members bound periods number : ℕ) (history other : HistoryValue) (ac
 -- ---- the text
 module _ (members bound periods number : ℕ) (text printed : List ℕ) (size : is_size members ≡ true) (bounded : is_bound members bound ≡ true)
     (is : IsTextOf members bound periods number text) (also : IsTextOf members bound periods number printed) where
+  same : (also.history ≡ is.history) × (also.accepted ≡ is.accepted)
   same = one_rehearsal members bound periods number is.history is.other also.history also.other is.accepted also.accepted size bounded is.rehearsal also.rehearsal
 
   others_same : also.other ≡ is.other
