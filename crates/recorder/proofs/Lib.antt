@@ -1,3 +1,12 @@
 pub mod Ready
 pub mod Walks
 pub mod DealtGrids
+pub mod HeardAs
+pub mod HeardMoves
+pub mod Unasked
+pub mod Counting
+pub mod Recording
+pub mod Begins
+pub mod Creates
+pub mod Refreshes
+pub mod Moves

@@ -10,5 +10,7 @@ mod readied;
 mod recorded;
 mod refreshed;
 mod seeds;
+#[cfg(test)]
+mod tests;
 
 pub use recorded::{Recorded, record_phase};

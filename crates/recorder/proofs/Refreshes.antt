@@ -1,0 +1,71 @@
+-- A refresh in which nobody was cut, and the record of its play.
+use Rattle.std.proofs.Common.{◌≡◌, ℕ, ◌<◌, List, length, Option, refl, sym, ap, ◌∙◌, subst, arith}
+use Rattle.algebra61.specs.Field.{Fp}
+use Rattle.sharing61.specs.Count.{how_many}
+use Rattle.sharing61.proofs.Count.{how_many_same}
+use Rattle.talk.specs.Sync.{nobody}
+use Rattle.plays.specs.Play.{Play}
+use Rattle.plays.specs.Law.{IsPlay}
+use Rattle.members.specs.Shares.{accepted_count}
+use Rattle.playback.specs.declared.phase.Phase.{Phase}
+use Rattle.playback.specs.Recorded.{play_of}
+use Rattle.commands.specs.Phase.{IsRefreshPhase}
+use Rattle.commands.specs.Standing.{seeds_for}
+use Rattle.commands.specs.declared.phase.Phase.{Phase as Run}
+use Rattle.scenes.specs.declared.side.Side.{Side}
+use Rattle.scenes.specs.declared.scene.Scene.TheVariants.{Refresh}
+use Rattle.scenes.specs.Law.{AreSides}
+use Rattle.scenes.specs.Lawful.{AreOrders}
+use Rattle.rehearsal_laws.specs.Down.{down_on}
+use Rattle.rehearsal_laws.specs.Played.{AreUncut, IsPlayed, play_under}
+use Rattle.rehearsal_laws.specs.Standing.{later_seeds, now_before, standing_before}
+use Rattle.rehearsal_laws.proofs.Downs.{few_beginners}
+use Rattle.rehearsal_laws.proofs.Fitting.{side_committee}
+use Rattle.rehearsal_laws.proofs.Refreshed.{refresh_down, refresh_is_play}
+use Rattle.recorder.specs.Begun.{HaveShares}
+use Rattle.recorder.proofs.Ready.{seeds_valid}
+use Rattle.recorder.proofs.Recording.{AreDown, IsReadOff, as_many, record_made}
+
+-- there is a seed for each share file, wherever the phase stands
+pub seeds_anywhere : (number place : ℕ) (side : Side) (shares : List (Option (List Fp))) → HaveShares side shares → (other : ℕ) →
+    length (later_seeds number place side) ≡ seeds_for (standing_before other (Refresh side) shares)
+seeds_anywhere number place side shares have other =
+    seeds_valid number place side (now_before other side) have.0 ∙ sym (ap (λ (given : List (Option (List Fp))). seeds_for (standing_before other (Refresh side) given)) have.1)
+
+-- what holds of the play, with these shares
+record IsRefreshed (number place : ℕ) (side : Side) (masks : List ℕ) (shares : List (Option (List Fp))) : Type 0 where
+  is_play : IsPlay (play_under number place (Refresh side) shares masks)
+  downs : AreDown (Refresh side) (play_under number place (Refresh side) shares masks).down
+
+-- a run of the phase, under cuts of nobody
+module _ (number place : ℕ) (side : Side) (shares : List (Option (List Fp))) (sides : AreSides (Refresh side)) (told : AreOrders (Refresh side)) (have : HaveShares side shares) (cuts : ℕ → ℕ) (none : cuts ≡ nobody)
+    (run : Run) (is : IsRefreshPhase (standing_before place (Refresh side) shares) (later_seeds number place side) cuts run) where
+  abbrev play : Play
+  play = play_under number place (Refresh side) shares run.masks
+
+  uncut : AreUncut number place (Refresh side) shares run.masks
+  uncut = (subst (λ (them : ℕ → ℕ). IsRefreshPhase (standing_before place (Refresh side) shares) (later_seeds number place side) them run) none is).0
+
+  is_refreshed : IsRefreshed number place side run.masks shares
+  is_refreshed =
+      subst (λ (given : List (Option (List Fp))). AreUncut number place (Refresh side) given run.masks → IsRefreshed number place side run.masks given) (sym have.1)
+      (λ given. record { is_play = refresh_is_play number place side have.0 sides told run.masks given; downs = refresh_down number place side have.0 sides told run.masks given }) uncut
+
+  pub refresh_downs : AreDown (Refresh side) (play_under number place (Refresh side) shares run.masks).down
+  refresh_downs = is_refreshed.downs
+
+  few : how_many side.members play.down < side.members
+  few =
+      omega (
+        arith,
+        how_many_same side.members play.down (down_on (Refresh side)) (λ seat from to. refresh_downs seat from (omega (arith, to))),
+        few_beginners (Refresh side) tt sides,
+        (side_committee side sides.0).third,
+      )
+
+  module _ (phase : Phase) (read : IsReadOff (Refresh side) (play_under number place (Refresh side) shares run.masks) phase) where
+    pub refresh_played : IsPlayed number place (Refresh side) shares phase
+    refresh_played = record { masks = run.masks; uncut = uncut; record_is = record_made (Refresh side) play phase is_refreshed.is_play refl refresh_downs read }
+
+    pub refresh_counted : run.accepted ≡ accepted_count (play_of phase)
+    refresh_counted = is.1.accepted few ∙ sym (as_many (Refresh side) play phase is_refreshed.is_play refl refresh_downs read)
