@@ -1,5 +1,5 @@
 -- A refresh in which nobody was cut, and the record of its play.
-use Rattle.std.proofs.Common.{◌≡◌, ℕ, ◌<◌, List, length, Option, refl, sym, ap, ◌∙◌, subst, arith}
+use Rattle.std.proofs.Common.{◌≡◌, ℕ, ◌<◌, List, length, Option, refl, sym, ap, ap₂, ◌∙◌, subst, arith}
 use Rattle.algebra61.specs.Field.{Fp}
 use Rattle.sharing61.specs.Count.{how_many}
 use Rattle.sharing61.proofs.Count.{how_many_same}
@@ -7,10 +7,13 @@ use Rattle.talk.specs.Sync.{nobody}
 use Rattle.plays.specs.Play.{Play}
 use Rattle.plays.specs.Law.{IsPlay}
 use Rattle.members.specs.Shares.{accepted_count}
+use Rattle.playback.specs.declared.phase.SaidItem.{SaidItem}
 use Rattle.playback.specs.declared.phase.Phase.{Phase}
 use Rattle.playback.specs.Recorded.{play_of}
+use Rattle.hearsay.specs.Said.{said_in}
 use Rattle.commands.specs.Phase.{IsRefreshPhase}
-use Rattle.commands.specs.Standing.{seeds_for}
+use Rattle.commands.specs.Refresh.{play_refreshed}
+use Rattle.commands.specs.Standing.{Standing, seeds_for}
 use Rattle.commands.specs.declared.phase.Phase.{Phase as Run}
 use Rattle.scenes.specs.declared.side.Side.{Side}
 use Rattle.scenes.specs.declared.scene.Scene.TheVariants.{Refresh}
@@ -31,6 +34,15 @@ pub seeds_anywhere : (number place : ℕ) (side : Side) (shares : List (Option (
     length (later_seeds number place side) ≡ seeds_for (standing_before other (Refresh side) shares)
 seeds_anywhere number place side shares have other =
     seeds_valid number place side (now_before other side) have.0 ∙ sym (ap (λ (given : List (Option (List Fp))). seeds_for (standing_before other (Refresh side) given)) have.1)
+
+-- what the members found and drew is of the phase
+module _ (number place : ℕ) (side : Side) (shares : List (Option (List Fp))) (found : Standing) (here : found ≡ standing_before place (Refresh side) shares) (seeds : List (List ℕ)) (drawn : seeds ≡ later_seeds number place side) where
+  pub refresh_here : (cuts : ℕ → ℕ) (run : Run) → IsRefreshPhase found seeds cuts run → IsRefreshPhase (standing_before place (Refresh side) shares) (later_seeds number place side) cuts run
+  refresh_here cuts run is =
+      subst (λ (st : Standing). IsRefreshPhase st (later_seeds number place side) cuts run) here (subst (λ (them : List (List ℕ)). IsRefreshPhase found them cuts run) drawn is)
+
+  pub refresh_said : (masks : List ℕ) (said : List SaidItem) → said ≡ said_in (play_refreshed found seeds masks) → said ≡ said_in (play_under number place (Refresh side) shares masks)
+  refresh_said masks said is = is ∙ ap₂ (λ (st : Standing) (them : List (List ℕ)). said_in (play_refreshed st them masks)) here drawn
 
 -- what holds of the play, with these shares
 record IsRefreshed (number place : ℕ) (side : Side) (masks : List ℕ) (shares : List (Option (List Fp))) : Type 0 where
