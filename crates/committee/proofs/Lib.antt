@@ -1,5 +1,6 @@
 pub mod Doing
 pub mod Attending
+pub mod Rehearsing
 pub mod OneMeaning
 pub mod CreateClauses
 pub mod RefreshClauses

@@ -14,7 +14,7 @@ use Rattle.keyroom.specs.declared.status.Status.{Status}
 use Rattle.keyroom.specs.declared.status.Status.TheVariants.{NoWord}
 use Rattle.keyroom.specs.declared.document.Direction.{Direction}
 use Rattle.keyroom.specs.declared.document.Direction.TheVariants.{Sealing, Opening}
-use Rattle.keyroom.specs.Words.{Command, Recover, Check, Create, Refresh, Move, Seal, Open, IsInRange, ReadsAs}
+use Rattle.keyroom.specs.Words.{Command, Recover, Check, Create, Refresh, Move, Seal, Open, Rehearse, IsInRange, ReadsAs}
 use Rattle.keyroom.specs.Outcome.{Outcome, done, ThenDo, AreFirst}
 use Rattle.keyroom.specs.Steps.{files_of}
 use Rattle.keyroom.specs.Decoding.{HonestFiles}
@@ -34,6 +34,7 @@ use Rattle.commands.specs.Move.{move_asked, play_moved, move_outcome, enough_mov
 use Rattle.commands.specs.Late.{refused_after}
 use Rattle.committee.specs.Meaning.{Given, of_phase, MeansCommand, MeansSome, MeansUnder, Means, TakesSeeds, ComeToPhase}
 use Rattle.committee.specs.Recovery.{document_command}
+use Rattle.committee.proofs.Rehearsing.{one_rehearsed, rehearsed_done}
 use Rattle.commands.proofs.Left.{both_left}
 use Rattle.commands.proofs.Movers.{CanMove, proper_move, can_asked}
 use Rattle.commands.proofs.Outs.{one_errors}
@@ -99,6 +100,7 @@ one_outcome (Recover name) given masks a b range told p q = one_recover name giv
 one_outcome (Check name) given masks a b range told p q = one_checked name given.held a b p q
 one_outcome (Seal name doc target) given masks a b range told p q = one_document Sealing name doc target given.held a b p q
 one_outcome (Open name source target) given masks a b range told p q = one_document Opening name source target given.held a b p q
+one_outcome (Rehearse members bound periods number) given masks a b range told p q = one_rehearsed members bound periods number range.0 range.1 a b p q
 
 -- of one status, unless the command comes to its phase
 abbrev OneStatus : Command → Held → Outcome → Outcome → Type 0
@@ -124,6 +126,7 @@ one_end (Recover name) given masks other a b p q = inl (ap (λ (o : Outcome). o.
 one_end (Check name) given masks other a b p q = inl (ap (λ (o : Outcome). o.status) (one_checked name given.held a b p q))
 one_end (Seal name doc target) given masks other a b p q = inl (ap (λ (o : Outcome). o.status) (one_document Sealing name doc target given.held a b p q))
 one_end (Open name source target) given masks other a b p q = inl (ap (λ (o : Outcome). o.status) (one_document Opening name source target given.held a b p q))
+one_end (Rehearse members bound periods number) given masks other a b p q = inl (rehearsed_done members bound periods number a b p q)
 
 pub one_meaning : (words : List (List ℕ)) (given : Given) (masks : List (List ℕ)) (a b : Outcome) → IsSome given.coming → MeansUnder masks words given a → MeansUnder masks words given b → a ≡ b
 one_meaning words given masks a b told (inl (none, e)) (inl (on, f)) = e ∙ sym f

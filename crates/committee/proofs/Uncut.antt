@@ -1,11 +1,12 @@
 -- Where nobody is cut the words and the outside have one status.
 use Rattle.std.proofs.Common.{◌≡◌, ◌⊎◌, inl, inr, ℕ, List, sym, ◌∙◌}
 use Rattle.keyroom.specs.Outcome.{Outcome}
-use Rattle.keyroom.specs.Words.{Command, Create, Refresh, Move, Recover, Check, Seal, Open, ReadsAs}
+use Rattle.keyroom.specs.Words.{Command, Create, Refresh, Move, Recover, Check, Seal, Open, Rehearse, ReadsAs}
 use Rattle.committee.specs.Meaning.{Given, of_phase, MeansCommand, TakesSeeds, ComeToMove}
 use Rattle.commands.specs.Uncut.{IsUncut}
 use Rattle.committee.specs.Uncut.{UncutHaveOneStatus}
 use Rattle.commands.proofs.Uncut.{uncut_creates_are_done, uncut_refreshes_are_done}
+use Rattle.committee.proofs.Rehearsing.{rehearsed_done}
 use Rattle.committee.proofs.OneMeaning.{one_under}
 
 done_or_move : (words : List (List ℕ)) (command : Command) (given : Given) (masks others : List (List ℕ)) (a b : Outcome) (count : ℕ) → ReadsAs words command → IsUncut given.cuts →
@@ -23,6 +24,7 @@ done_or_move words (Recover name) given masks others a b count reads uncut p q t
 done_or_move words (Check name) given masks others a b count reads uncut p q takes = absurd takes
 done_or_move words (Seal name doc target) given masks others a b count reads uncut p q takes = absurd takes
 done_or_move words (Open name source target) given masks others a b count reads uncut p q takes = absurd takes
+done_or_move words (Rehearse members bound periods number) given masks others a b count reads uncut p q takes = inl (rehearsed_done members bound periods number a b p q)
 
 pub uncut_have_one_status : UncutHaveOneStatus
 uncut_have_one_status words given a b uncut p q =

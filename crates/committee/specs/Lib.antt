@@ -1,4 +1,5 @@
 pub mod Answer
+pub mod Rehearse
 pub mod Meaning
 pub mod Crews
 pub mod Uncut

@@ -3,7 +3,7 @@ use Rattle.std.specs.Prelude.{◌≡◌, ◌⊎◌, ℕ, List, [], get_or, Optio
 use Rattle.shelf.specs.Held.{Held}
 use Rattle.keyroom.specs.declared.status.Status.TheVariants.{Usage}
 use Rattle.keyroom.specs.declared.document.Direction.TheVariants.{Sealing, Opening}
-use Rattle.keyroom.specs.Words.{Command, Create, Refresh, Move, Recover, Check, Seal, Open, ReadsAs, IsUsage}
+use Rattle.keyroom.specs.Words.{Command, Create, Refresh, Move, Recover, Check, Seal, Open, Rehearse, ReadsAs, IsUsage}
 use Rattle.keyroom.specs.Outcome.{Outcome, refused}
 use Rattle.keyroom.specs.Recover.{MeansRecover}
 use Rattle.keyroom.specs.Check.{MeansCheck}
@@ -13,6 +13,7 @@ use Rattle.commands.specs.Create.{CreateTakes, MeansCreate}
 use Rattle.commands.specs.Standing.{Standing, HasSoundNow}
 use Rattle.commands.specs.Refresh.{RefreshTakes, MeansRefresh}
 use Rattle.commands.specs.Move.{move_asked, MoveTakes, MeansMove}
+use Rattle.committee.specs.Rehearse.{MeansRehearse, RehearseTakes}
 
 -- what a command is given: what the shelf holds, the seeds to come, where they are told, and who may have been cut in each
 -- round of its phase
@@ -25,7 +26,8 @@ pub record Given : Type 0 where
 abbrev pub of_phase : List (List ℕ) → ℕ → List ℕ
 of_phase masks phase = get_or masks phase []
 
--- What a command means under the masks of the rounds of its phases; a command without a phase is the same under all masks.
+-- What a command means under the masks of the rounds of its phases; a command without a phase is the same under all masks,
+-- and so is a rehearsal, in which nobody is cut and nobody speaks late.
 abbrev pub MeansCommand : Command → Given → List (List ℕ) → Outcome → Type 0
 MeansCommand (Create name n t drill) given masks = MeansCreate name n t drill given.held given.coming given.cuts (of_phase masks 0)
 MeansCommand (Refresh name drill) given masks = MeansRefresh name drill given.held given.coming given.cuts (of_phase masks 0)
@@ -34,6 +36,7 @@ MeansCommand (Recover name) given masks = MeansRecover name given.held
 MeansCommand (Check name) given masks = MeansCheck name given.held
 MeansCommand (Seal name doc target) given masks = MeansDocument Sealing name doc target given.held
 MeansCommand (Open name source target) given masks = MeansDocument Opening name source target given.held
+MeansCommand (Rehearse members bound periods number) given masks = MeansRehearse members bound periods number
 
 -- it means so under some masks
 abbrev pub MeansSome : Command → Given → Outcome → Type 0
@@ -58,6 +61,7 @@ TakesSeeds (Recover name) held count = ⊥
 TakesSeeds (Check name) held count = ⊥
 TakesSeeds (Seal name doc target) held count = ⊥
 TakesSeeds (Open name source target) held count = ⊥
+TakesSeeds (Rehearse members bound periods number) held count = RehearseTakes count
 
 -- the words are such a command
 abbrev pub AskForSeeds : List (List ℕ) → Held → ℕ → Type 0
@@ -72,6 +76,7 @@ most_seeds (Recover name) = 0
 most_seeds (Check name) = 0
 most_seeds (Seal name doc target) = 0
 most_seeds (Open name source target) = 0
+most_seeds (Rehearse members bound periods number) = 0
 
 -- The seeds to come, where they are told, are enough for a command: for what it comes to take over what the shelf holds,
 -- or for whatever it may take, where the shelf doesn't tell.
@@ -101,3 +106,4 @@ ReadsNow (Recover name) held = Unit {0}
 ReadsNow (Check name) held = Unit {0}
 ReadsNow (Seal name doc target) held = Unit {0}
 ReadsNow (Open name source target) held = Unit {0}
+ReadsNow (Rehearse members bound periods number) held = Unit {0}

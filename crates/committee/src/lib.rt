@@ -2,6 +2,7 @@
 //! a sink that are handed in, and answers the status.
 #![tactic(auto)]
 
+mod rehearse;
 mod top;
 
 pub use commands::{

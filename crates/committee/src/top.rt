@@ -9,7 +9,7 @@ ghost use Rattle.keyroom.specs.declared.document.Direction.{Direction};
 ghost use Rattle.keyroom.specs.declared.status.Status.TheVariants.{NoWord};
 ghost use Rattle.keyroom.specs.Causes.{cause_of};
 ghost use Rattle.keyroom.specs.Causes as cause;
-ghost use Rattle.keyroom.specs.Words.{Create, Refresh, Move, Recover, ReadsAs, texts, IsUsage, IsInRange};
+ghost use Rattle.keyroom.specs.Words.{Create, Refresh, Move, Recover, Rehearse, ReadsAs, texts, IsUsage, IsInRange};
 ghost use Rattle.keyroom.specs.Commands.{command_of};
 ghost use Rattle.keyroom.specs.Outcome.{Outcome, done};
 ghost use Rattle.keyroom.specs.Steps.{now_of, files_of};
@@ -29,12 +29,15 @@ ghost use Rattle.committee.specs.Plain.{HeldPlain};
 ghost use Rattle.commands.specs.Kept.{IsRefreshed, IsKept};
 ghost use Rattle.commands.specs.Moved.{IsMoved, IsCarriedOn, LacksWord};
 ghost use Rattle.committee.specs.Recovery.{Honestly, document_command};
+ghost use Rattle.committee.specs.Rehearse.{EndsInSome, PlansRehearsal};
+ghost use Rattle.playbill.specs.Printed.{IsTextOf};
 ghost use Rattle.commands.specs.Planning.{PlansWith};
 ghost use Rattle.commands.specs.Causes.{before_text, IsCounted, IsFromCommand};
 ghost use Rattle.commands.specs.Crews.{Lent};
 ghost use Rattle.committee.specs.Crews.{AllAttended, AllAttendedFor};
 
 use commands::{plan_create, plan_move, plan_refresh};
+use crate::rehearse::plan_rehearsal;
 use keyroom::{
     Command, Direction, Plan, Status, carry_out, plan_check, plan_document, plan_recover,
     read_words,
@@ -65,6 +68,7 @@ fn plan<H: Shelf, E: Entropy, C: Crew, Q: Pace + Send, R: Threads + Wait + Sync>
     ensures calm { E.calm entropy.old → AreEnoughFor (command_of command.now) (H.held shelf.old) (E.coming entropy.old) → E.calm entropy.new }
     ensures now { IfOk result (λ _. IfSome (H.held shelf.old) (ReadsNow (command_of command.now))) }
     ensures lent { Lent C.fault_count C.attended_count C.calm crew.old crew.new }
+    ensures rehearsed { PlansRehearsal (command_of command.now) shelf.old shelf.new entropy.old entropy.new result }
     ensures attended { IfOk result (λ _. AllAttended (command_of command.now) (H.held shelf.old) (C.attended_count crew.old) (C.attended_count crew.new)) }
 {
     match command {
@@ -95,6 +99,11 @@ fn plan<H: Shelf, E: Entropy, C: Crew, Q: Pace + Send, R: Threads + Wait + Sync>
             source,
             target,
         } => plan_document(alloc, Direction::Opening, name, source, target, shelf),
+        Command::Rehearse {
+            committee,
+            periods,
+            number,
+        } => plan_rehearsal(rt, alloc, *committee, *periods, *number, crew),
     }
 }
 
@@ -168,6 +177,10 @@ pub fn run<H: Shelf, E: Entropy, C: Crew, Q: Pace + Send, K: Sink, R: Threads + 
     ensures carried { IfSome (H.held shelf.old) (λ old. IfSome (H.held shelf.new) (λ m.
         (name : List ℕ) (size bound : ℕ) (drill : Option (List ℕ)) (before : Now) → ReadsAs (texts words.now) (Move name size bound drill) →
         (masks : List ℕ) × IsCarriedOn name size bound drill before (E.coming entropy.old) (cuts_in Q.answered_count Q.cuts_of pace.old pace.new) masks old m)) }
+    // A rehearsal asks nothing of the shelf and the entropy, whatever these tell, and puts out its text, which hangs on its
+    // words alone.
+    ensures rehearsed { (members bound periods number : ℕ) → ReadsAs (texts words.now) (Rehearse members bound periods number) →
+        (shelf.new ≡ shelf.old) × (entropy.new ≡ entropy.old) × EndsInSome (IsTextOf members bound periods number) (K.told out.old) (K.told out.new) (cause_of result) }
     // Any N - T honest share files are enough, whatever the other files are: the key that is recovered, under which a
     // document is sealed or opened, is what they say, and so are the members' states.
     ensures honest { IfSome (H.held shelf.old) (λ m. (name : List ℕ) (now : Now) (polys : List Polynomial) → HonestFiles name now m polys →

@@ -5,7 +5,7 @@ use committee::{Status, run};
 use crews::ThreadCrew;
 use keyroom::{Command, read_words};
 use paces::TurnPace;
-use shelf::{DeviceEntropy, FolderShelf, OutSink};
+use shelf::{DeviceEntropy, FolderShelf, MemoryShelf, OutSink, Shelf};
 use std::alloc::Global;
 use std::io::ErrorKind;
 use std::process::ExitCode;
@@ -30,20 +30,22 @@ fn words(rt: &HostRuntime) -> io::Result<Vec<String>> {
 }
 
 /// The current folder, locked for what the command does there: those that only ask share it, and
-/// any other has it to itself.
+/// any other has it to itself. A rehearsal needs none.
 fn folder_for<'a>(
     rt: &'a HostRuntime,
     command: &Command<'a>,
-) -> io::Result<FolderShelf<'a, HostRuntime>> {
-    match command {
-        Command::Recover { .. } | Command::Check { .. } => FolderShelf::open_shared(rt),
+) -> io::Result<Option<FolderShelf<'a, HostRuntime>>> {
+    let folder = match command {
+        Command::Recover { .. } | Command::Check { .. } => FolderShelf::open_shared(rt)?,
         Command::Seal { target, .. } | Command::Open { target, .. } => {
-            FolderShelf::open_exclusive(rt, Some(*target))
+            FolderShelf::open_exclusive(rt, Some(*target))?
         }
         Command::Create { .. } | Command::Refresh { .. } | Command::Move { .. } => {
-            FolderShelf::open_exclusive(rt, None)
+            FolderShelf::open_exclusive(rt, None)?
         }
-    }
+        Command::Rehearse { .. } => return Ok(None),
+    };
+    Ok(Some(folder))
 }
 
 /// Has the C library keep memory that is given back, up to some megabytes, in place of handing the end of its heap to the
@@ -53,8 +55,32 @@ fn keep_freed_memory(alloc: Global) {
     let _ = Vec::<u8>::with_capacity(alloc, LARGE_BLOCK);
 }
 
-/// Runs the command over the real shelf, entropy, crew and sink. Words that aren't UTF-8 are no command.
-/// The folder stays locked until this ends. The runtime is handed in twice: for files and streams, and for threads.
+/// Runs the words over this shelf and the real entropy, crew and sink. The runtime is handed in twice: for files and
+/// streams, and for threads.
+fn run_over<H: Shelf, R: Threads + Wait + Sync>(
+    host: &HostRuntime,
+    rt: &R,
+    words: &[String],
+    shelf: &mut H,
+) -> Status {
+    let mut entropy = DeviceEntropy::new(host);
+    let mut out = OutSink::new(io::writer(host));
+    let mut crew = ThreadCrew::new();
+    let mut pace = TurnPace::new(TURNS);
+    run(
+        rt,
+        host.alloc(),
+        words,
+        shelf,
+        &mut entropy,
+        &mut crew,
+        &mut pace,
+        &mut out,
+    )
+}
+
+/// Runs the command over the folder that it needs, or over an empty shelf in memory where it needs none. Words that aren't
+/// UTF-8 are no command. The folder stays locked until this ends.
 fn status_of<R: Threads + Wait + Sync>(host: &HostRuntime, rt: &R) -> Status {
     let words = match words(host) {
         Ok(words) => words,
@@ -64,23 +90,14 @@ fn status_of<R: Threads + Wait + Sync>(host: &HostRuntime, rt: &R) -> Status {
     let Some(command) = read_words(&words) else {
         return Status::Usage;
     };
-    let Ok(mut shelf) = folder_for(host, &command) else {
-        return Status::ShelfFault;
-    };
-    let mut entropy = DeviceEntropy::new(host);
-    let mut out = OutSink::new(io::writer(host));
-    let mut crew = ThreadCrew::new();
-    let mut pace = TurnPace::new(TURNS);
-    run(
-        rt,
-        host.alloc(),
-        &words,
-        &mut shelf,
-        &mut entropy,
-        &mut crew,
-        &mut pace,
-        &mut out,
-    )
+    match folder_for(host, &command) {
+        Ok(Some(mut folder)) => run_over(host, rt, &words, &mut folder),
+        Ok(None) => {
+            let mut none = MemoryShelf::new(host.alloc(), Vec::new(host.alloc()));
+            run_over(host, rt, &words, &mut none)
+        }
+        Err(_) => Status::ShelfFault,
+    }
 }
 
 /// Prints the line of a refusal. That of refused memory takes none, so it is there where no memory is.

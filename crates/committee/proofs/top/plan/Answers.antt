@@ -10,6 +10,7 @@ use Rattle.commands.specs.Move.{MeansMove}
 use Rattle.commands.specs.Refresh.{MeansRefresh}
 use Rattle.committee.specs.Meaning.{TakesSeeds}
 use Rattle.committee.proofs.Doing.{phase_told, plans_told}
+use Rattle.committee.proofs.Rehearsing.{rehearsal_told}
 use Rattle.committee.proofs.top.plan.Goals as goal
 
 pub returns-in-Create-clause-meaning : goal.returns-in-Create-clause-meaning
@@ -45,3 +46,8 @@ returns-in-Seal-clause-meaning g c =
 pub returns-in-Open-clause-meaning : goal.returns-in-Open-clause-meaning
 returns-in-Open-clause-meaning g c =
     rw c.in-Open.is (plans_told (MeansDocument Opening c.in-Open.name c.in-Open.source.now c.in-Open.target.now) (TakesSeeds (Open c.in-Open.name c.in-Open.source.now c.in-Open.target.now)) (g.H.Shelf.held c.args.shelf.now) (g.E.Entropy.coming c.args.entropy.now) _ _ c.plan_document-in-Open.result c.plan_document-in-Open.ensures.cause c.plan_document-in-Open.ensures.meaning)
+
+pub returns-in-Rehearse-clause-meaning : goal.returns-in-Rehearse-clause-meaning
+returns-in-Rehearse-clause-meaning g c =
+    rw c.in-Rehearse.is (rehearsal_told c.in-Rehearse.committee.members c.in-Rehearse.committee.bound c.in-Rehearse.periods c.in-Rehearse.number (g.H.Shelf.held c.args.shelf.now) (g.E.Entropy.coming c.args.entropy.now)
+    (cuts_in g.Q.Pace.answered_count g.Q.Pace.cuts_of c.args.pace.now c.args.pace.now) _ _ c.plan_rehearsal.result c.plan_rehearsal.ensures.cause c.plan_rehearsal.ensures.changes c.plan_rehearsal.ensures.text)

@@ -1,5 +1,7 @@
-use Rattle.std.proofs.Common.{refl}
-use Rattle.keyroom.specs.Words.{texts}
+use Rattle.std.proofs.Common.{refl, ◌∙◌, Ok, Err}
+use Rattle.keyroom.specs.Words.{texts, Rehearse}
+use Rattle.keyroom.specs.Causes.{cause_of}
+use Rattle.playbill.specs.Printed.{IsTextOf}
 use Rattle.keyroom.specs.Commands.{command_of}
 use Rattle.keyroom.specs.Changes.{changes_of, outcome_of}
 use Rattle.std.specs.Prelude.{string_bytes}
@@ -12,6 +14,7 @@ use Rattle.committee.proofs.Plain.{run_plain}
 use Rattle.committee.proofs.RefreshClauses.{run_by_one, run_keeps_the_key, unchanged_keeps}
 use Rattle.committee.proofs.MoveClauses.{run_moved, run_lacks_word, run_carried, unchanged_carried}
 use Rattle.committee.proofs.Recovery.{run_honestly, no_command}
+use Rattle.committee.proofs.Rehearsing.{planned_for, ends_told, ends_untold}
 use Rattle.committee.proofs.top.run.Goals as goal
 
 pub returns-in-Ok-clause-meaning : goal.returns-in-Ok-clause-meaning
@@ -66,6 +69,20 @@ returns-in-Ok-clause-honest g c = run_honestly (texts c.args.words.now) _ _ _ _ 
 
 pub returns-in-Ok-clause-attended : goal.returns-in-Ok-clause-attended
 returns-in-Ok-clause-attended g c = λ made. attended_for (texts c.args.words.now) (command_of c.in-Some.command) (g.H.Shelf.held c.args.shelf.now) _ _ c.in-Some.ensures.found c.in-Ok.ensures.attended
+
+pub returns-in-Ok-clause-rehearsed : goal.returns-in-Ok-clause-rehearsed
+returns-in-Ok-clause-rehearsed g c members bound periods number reads =
+    let left = planned_for (texts c.args.words.now) (command_of c.in-Some.command) members bound periods number c.args.shelf.now c.plan.new.shelf c.args.entropy.now c.plan.new.entropy (Ok c.in-Ok.plan) c.in-Some.ensures.found reads c.in-Ok.ensures.rehearsed in
+    (c.carry_out.ensures.untouched left.2.0 ∙ left.0, left.1,
+      ends_told (IsTextOf members bound periods number) c.in-Ok.plan (g.H.Shelf.held c.plan.new.shelf) (g.H.Shelf.held c.carry_out.new.shelf) (g.K.Sink.told c.args.out.now) (g.K.Sink.told c.carry_out.new.out) _ left.2.0 left.2.1 c.carry_out.ensures.carried)
+
+pub returns-in-Err-clause-rehearsed : goal.returns-in-Err-clause-rehearsed
+returns-in-Err-clause-rehearsed g c members bound periods number reads =
+    let left = planned_for (texts c.args.words.now) (command_of c.in-Some.command) members bound periods number c.args.shelf.now c.plan.new.shelf c.args.entropy.now c.plan.new.entropy (Err c.in-Err.status) c.in-Some.ensures.found reads c.in-Err.ensures.rehearsed in
+    (left.0, left.1, ends_untold (IsTextOf members bound periods number) (g.K.Sink.told c.args.out.now) (cause_of c.in-Err.status) left.2)
+
+pub returns-in_default-clause-rehearsed : goal.returns-in_default-clause-rehearsed
+returns-in_default-clause-rehearsed g c members bound periods number reads = absurd (c.in_default.ensures.none (Rehearse members bound periods number) reads)
 
 pub returns-in-Ok-clause-writes : goal.returns-in-Ok-clause-writes
 returns-in-Ok-clause-writes g c = written (changes_of c.in-Ok.plan.changes.items) (string_bytes c.in-Ok.plan.text) _ _ _ _ c.carry_out.result c.carry_out.ensures.carried
