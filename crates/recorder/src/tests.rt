@@ -94,7 +94,7 @@ fn records<R: Threads + Wait + Sync>(
     Ok(())
 }
 
-#[cfg(test)] #[test]
+#[test]
 fn nothing_is_heard_of_one_who_is_silent_and_one_without_a_share(
     rt: HostRuntime,
 ) -> Result<(), Fail> {
@@ -105,7 +105,7 @@ fn nothing_is_heard_of_one_who_is_silent_and_one_without_a_share(
     Ok(())
 }
 
-#[cfg(test)] #[test]
+#[test]
 fn a_false_dealer_and_a_false_complaint_are_heard(rt: HostRuntime) -> Result<(), Fail> {
     let alloc = rt.alloc();
     let created = [

@@ -4,5 +4,7 @@
 mod begun;
 mod life;
 mod rehearsed;
+#[cfg(test)]
+mod tests;
 
 pub use rehearsed::{Rehearsed, rehearse_run};
