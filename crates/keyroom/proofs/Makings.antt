@@ -21,7 +21,7 @@ no_making words few last name n t (Some file) reads =
     let e : true ≡ false = sym is ∙ sym (ap (λ (ws : List (List ℕ)). is_file_name (get_or ws 3 [])) reads.words_are) ∙ other in
     cc
 
-same_number : (word : List ℕ) (n k : ℕ) → n < 2 ^ 32 → k < 2 ^ 32 → word ≡ decimal n → word ≡ decimal k → n ≡ k
+pub same_number : (word : List ℕ) (n k : ℕ) → n < 2 ^ 32 → k < 2 ^ 32 → word ≡ decimal n → word ≡ decimal k → n ≡ k
 same_number word n k small fits is other = decimal_injective n k (omega (arith, small)) (omega (arith, fits)) (sym is ∙ other)
 
 -- two words that spell numbers of which no command can make a committee spell none that it can

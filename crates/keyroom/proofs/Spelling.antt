@@ -5,7 +5,7 @@ use Rattle.std.specs.Str.{bytes_eq}
 use Rattle.std.proofs.lemmas.Bool.Decides.{nat_tests}
 use Rattle.std.proofs.lemmas.Fmt.{digits_value-decimal}
 use Rattle.sizes.specs.Committees.{is_size, is_bound}
-use Rattle.keyroom.specs.Words.{Command, Create, Refresh, Move, Recover, Check, Seal, Open, MakesInRange, IsInRange, optional, spelling, ReadsAs}
+use Rattle.keyroom.specs.Words.{Command, Create, Refresh, Move, Recover, Check, Seal, Open, Rehearse, MakesInRange, RehearsesInRange, IsInRange, optional, spelling, ReadsAs}
 use Rattle.decimals.specs.Decimals.{number_of}
 use Rattle.decimals.proofs.Numbers.{own}
 
@@ -23,6 +23,11 @@ first_of (word ∷ words) = Some word
 abbrev made_at : (List ℕ → ℕ → ℕ → Option (List ℕ) → Command) → List (List ℕ) → Command
 made_at make words = make (get_or words 1 []) (number_of (get_or words 2 [])) (number_of (get_or words 3 [])) (first_of (drop 4 words))
 
+-- the rehearsal, by the words behind the first
+abbrev pub rehearsed_at : List (List ℕ) → Command
+rehearsed_at words =
+    Rehearse (number_of (get_or words 1 [])) (number_of (get_or words 2 [])) (number_of (get_or words 3 [])) (number_of (get_or words 4 []))
+
 -- the command that words spell, whatever they are where they spell none
 abbrev pub command_at : List (List ℕ) → Command
 command_at words =
@@ -32,7 +37,8 @@ command_at words =
     (cond (bytes_eq (get_or words 0 []) (codes "recover")) (Recover (get_or words 1 []))
     (cond (bytes_eq (get_or words 0 []) (codes "check")) (Check (get_or words 1 []))
     (cond (bytes_eq (get_or words 0 []) (codes "seal")) (Seal (get_or words 1 []) (get_or words 2 []) (get_or words 3 []))
-    (Open (get_or words 1 []) (get_or words 2 []) (get_or words 3 [])))))))
+    (cond (bytes_eq (get_or words 0 []) (codes "open")) (Open (get_or words 1 []) (get_or words 2 []) (get_or words 3 []))
+    (rehearsed_at words)))))))
 
 first_back : (drill : Option (List ℕ)) → first_of (optional drill) ≡ drill
 first_back None = refl
@@ -45,6 +51,11 @@ made_back : (make : List ℕ → ℕ → ℕ → Option (List ℕ) → Command) 
     make name (number_of (decimal n)) (number_of (decimal t)) (first_of (optional drill)) ≡ make name n t drill
 made_back make name n t drill is = rw (value_back n (small_size n is.1), value_back t (small_bound n t is.1 is.2), first_back drill) refl
 
+rehearsed_back : (members bound periods number : ℕ) → RehearsesInRange members bound periods number →
+    Rehearse (number_of (decimal members)) (number_of (decimal bound)) (number_of (decimal periods)) (number_of (decimal number)) ≡ Rehearse members bound periods number
+rehearsed_back members bound periods number is =
+    rw (value_back members (small_size members is.0), value_back bound (small_bound members bound is.0 is.1), value_back periods (omega (arith, is.3)), value_back number is.4) refl
+
 -- each command is given back
 pub spelled_back : (command : Command) → IsInRange command → command_at (spelling command) ≡ command
 spelled_back (Create name n t drill) is = made_back Create name n t drill is
@@ -54,6 +65,7 @@ spelled_back (Recover name) is = refl
 spelled_back (Check name) is = refl
 spelled_back (Seal name doc target) is = refl
 spelled_back (Open name source target) is = refl
+spelled_back (Rehearse members bound periods number) is = rehearsed_back members bound periods number is
 
 -- the command that words are
 pub read_back : (words : List (List ℕ)) (command : Command) → ReadsAs words command → command_at words ≡ command

@@ -3,7 +3,7 @@ use Rattle.std.specs.Prelude.{ℕ, List, Option, Some, None}
 use Rattle.std.proofs.Common.{Bor}
 use Rattle.keyroom.specs.Words as words
 use Rattle.keyroom.specs.declared.command.Command.{Command}
-use Rattle.keyroom.specs.declared.command.Command.TheVariants.{Create, Refresh, Move, Recover, Check, Seal, Open}
+use Rattle.keyroom.specs.declared.command.Command.TheVariants.{Create, Refresh, Move, Recover, Check, Seal, Open, Rehearse}
 
 -- a word that may be left out
 abbrev pub text_of : Option (Bor (List ℕ)) → Option (List ℕ)
@@ -18,3 +18,4 @@ command_of (Recover name) = words.Recover name
 command_of (Check name) = words.Check name
 command_of (Seal name doc target) = words.Seal name doc.now target.now
 command_of (Open name source target) = words.Open name source.now target.now
+command_of (Rehearse committee periods number) = words.Rehearse committee.members committee.bound periods number

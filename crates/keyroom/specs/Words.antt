@@ -1,5 +1,5 @@
 -- Which command a list of words is. A command has exactly one spelling.
-use Rattle.std.specs.Prelude.{◌≡◌, decimal, ℕ, eqb, nat_le, List, [], ◌∷◌, map, length, String, string_bytes, codes, Bool, not, ◌&&◌, ◌||◌, ◌==◌, Option, Some, None, IfSome, IsTrue}
+use Rattle.std.specs.Prelude.{◌≡◌, ◌≤◌, ◌<◌, ◌^◌, decimal, ℕ, eqb, nat_le, List, [], ◌∷◌, map, length, String, string_bytes, codes, Bool, not, ◌&&◌, ◌||◌, ◌==◌, Option, Some, None, IfSome, IsTrue}
 use Rattle.std.specs.List.{list_all, starts_with, ends_with}
 use Rattle.sharefile.specs.Names.{is_key_name}
 use Rattle.sizes.specs.Committees.{is_size, is_bound}
@@ -13,6 +13,7 @@ pub data Command : Type 0 where
   Check : List ℕ → Command
   Seal : List ℕ → List ℕ → List ℕ → Command
   Open : List ℕ → List ℕ → List ℕ → Command
+  Rehearse : ℕ → ℕ → ℕ → ℕ → Command
 
 -- the words' bytes
 module _ {Y : Type 0} where
@@ -36,6 +37,8 @@ spelling (Recover name) = codes "recover" ∷ name ∷ []
 spelling (Check name) = codes "check" ∷ name ∷ []
 spelling (Seal name doc target) = codes "seal" ∷ name ∷ doc ∷ target ∷ []
 spelling (Open name source target) = codes "open" ∷ name ∷ source ∷ target ∷ []
+spelling (Rehearse members bound periods number) =
+    codes "rehearse" ∷ decimal members ∷ decimal bound ∷ decimal periods ∷ decimal number ∷ []
 
 -- it doesn't begin with `-` and holds no zero byte
 abbrev pub is_plain_text : List ℕ → Bool
@@ -53,6 +56,11 @@ is_file_name text = nat_le 1 (length text) && nat_le (length text) 255 && is_pla
 abbrev pub MakesInRange : List ℕ → ℕ → ℕ → Option (List ℕ) → Type 0
 MakesInRange name n t drill = IsTrue (is_key_name name) × IsTrue (is_size n) × IsTrue (is_bound n t) × IfSome drill (λ file. IsTrue (is_file_name file))
 
+-- a rehearsal has 1 to 64 periods after the first, and its number has 32 bits
+abbrev pub RehearsesInRange : ℕ → ℕ → ℕ → ℕ → Type 0
+RehearsesInRange members bound periods number =
+    IsTrue (is_size members) × IsTrue (is_bound members bound) × (1 ≤ periods) × (periods ≤ 64) × (number < 2 ^ 32)
+
 -- each word is in its range
 abbrev pub IsInRange : Command → Type 0
 IsInRange (Create name n t drill) = MakesInRange name n t drill
@@ -62,6 +70,7 @@ IsInRange (Recover name) = IsTrue (is_key_name name)
 IsInRange (Check name) = IsTrue (is_key_name name)
 IsInRange (Seal name doc target) = IsTrue (is_key_name name) × IsTrue (is_file_name doc) × IsTrue (is_file_name target)
 IsInRange (Open name source target) = IsTrue (is_key_name name) × IsTrue (is_file_name source) × IsTrue (is_file_name target)
+IsInRange (Rehearse members bound periods number) = RehearsesInRange members bound periods number
 
 -- the words are the command's spelling
 pub record ReadsAs (words : List (List ℕ)) (command : Command) : Type 0 where

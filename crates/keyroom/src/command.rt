@@ -1,5 +1,5 @@
 //! The words of a command.
-ghost use Rattle.std.specs.Prelude.{◌≡◌, ◌≢◌, ℕ, ◌↔◌, ◌∷◌, ◌==◌, not, eqb, IfSome, IfNone, IsTrue, codes, decimal};
+ghost use Rattle.std.specs.Prelude.{◌≡◌, ◌≢◌, ◌≤◌, ℕ, ◌↔◌, [], ◌∷◌, ◌==◌, not, eqb, IfSome, IfNone, IsTrue, codes, decimal};
 ghost use Rattle.std.specs.List.{list_all, starts_with};
 ghost use Rattle.keyroom.specs.Words.{texts, optional, ReadsAs, IsUsage, ReadsAsMaking, MakesNothing, is_plain_text, ends_like_a_key_file, is_file_name};
 ghost use Rattle.sizes.specs.Committees.{is_size, is_bound};
@@ -52,6 +52,13 @@ pub enum Command<'a> {
         source: &'a str,
         target: &'a str,
     },
+    /// `rehearse N T PERIODS NUMBER`: plays a whole life of a key from the number, with no files: a create among N members,
+    /// of whom at most T may be faulty, and 1 to 64 periods after the first.
+    Rehearse {
+        committee: Committee,
+        periods: u32,
+        number: u32,
+    },
 }
 
 /// The command that these words are. `None` exactly where no command is spelled so.
@@ -68,6 +75,7 @@ pub fn read_words(words: &[String]) -> Option<Command<'_>>
         "check" => check_words(rest),
         "seal" => seal_words(rest),
         "open" => open_words(rest),
+        "rehearse" => rehearse_words(rest),
         _ => None,
     }
 }
@@ -282,6 +290,49 @@ fn open_words(rest: &[String]) -> Option<Command<'_>>
                 target: target.as_str(),
             })
         }
+        _ => None,
+    }
+}
+
+/// How many periods a rehearsal has after the first: 1 to 64, by its digits.
+fn read_periods(word: &str) -> Option<u32>
+    ensures found { IfSome result (λ periods. (word.now ≡ decimal periods) × (1 ≤ periods) × (periods ≤ 64)) }
+    ensures none { IfNone result ((periods : ℕ) → 1 ≤ periods → periods ≤ 64 → word.now ≢ decimal periods) }
+{
+    let periods = read_u32(word.as_bytes())?;
+    if 1 <= periods && periods <= 64 {
+        Some(periods)
+    } else {
+        None
+    }
+}
+
+/// The rehearsal of these words.
+fn rehearsal_of<'a>(members: &str, bound: &str, periods: &str, number: &str) -> Option<Command<'a>>
+    ensures found { IfSome result (λ command. ReadsAs (codes "rehearse" ∷ members.now ∷ bound.now ∷ periods.now ∷ number.now ∷ []) (command_of command)) }
+    ensures none { IfNone result (IsUsage (codes "rehearse" ∷ members.now ∷ bound.now ∷ periods.now ∷ number.now ∷ [])) }
+{
+    let committee = read_committee(members, bound)?;
+    let periods = read_periods(periods)?;
+    let number = read_u32(number.as_bytes())?;
+    Some(Command::Rehearse {
+        committee,
+        periods,
+        number,
+    })
+}
+
+fn rehearse_words(rest: &[String]) -> Option<Command<'_>>
+    ensures found { IfSome result (λ command. ReadsAs (codes "rehearse" ∷ texts rest.now) (command_of command)) }
+    ensures none { IfNone result (IsUsage (codes "rehearse" ∷ texts rest.now)) }
+{
+    match rest {
+        [members, bound, periods, number] => rehearsal_of(
+            members.as_str(),
+            bound.as_str(),
+            periods.as_str(),
+            number.as_str(),
+        ),
         _ => None,
     }
 }

@@ -32,5 +32,5 @@ pub use sound::{check_period, check_sound, is_down, is_down_in_move, sound_count
 pub use state::{MemberState, StateList};
 pub use status::{Status, What};
 pub use steps::{Found, check_free, files_of, get, now_of};
-pub use text::{create_text, move_text, now_name, refresh_text, share_name};
+pub use text::{create_text, move_text, now_name, put_hex, refresh_text, share_name};
 pub use work::Sealed;

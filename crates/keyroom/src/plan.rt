@@ -1,5 +1,5 @@
 //! What a command will do, made before anything is changed.
-ghost use Rattle.std.specs.Prelude.{◌≡◌, ◌≤◌, OnOk, OnErr, string_bytes};
+ghost use Rattle.std.specs.Prelude.{◌≡◌, ◌≤◌, [], OnOk, OnErr, string_bytes};
 ghost use Rattle.shelf.specs.Causes.{Makes, HasCause};
 ghost use Rattle.counters.specs.Counts.{Rose};
 ghost use Rattle.keyroom.specs.Causes.{cause_of};
@@ -49,6 +49,7 @@ pub fn make_all<H: Shelf>(
     ensures part { OnErr result (IsPartWay (changes_of changes.now) (H.held shelf.old) (H.held shelf.new)) }
     ensures cause { HasCause (H.fault_count shelf.old) (H.fault_count shelf.new) result }
     ensures calm { H.calm shelf.old → H.calm shelf.new }
+    ensures untouched { changes.now ≡ [] → shelf.new ≡ shelf.old }
 {
     for change in changes {
         make(alloc, change, shelf)?;
@@ -73,6 +74,7 @@ pub fn carry_out<H: Shelf, K: Sink>(
     ensures sink_later { K.fault_count out.old ≤ K.fault_count out.new }
     ensures shelf_calm { H.calm shelf.old → H.calm shelf.new }
     ensures sink_calm { K.calm out.old → K.calm out.new }
+    ensures untouched { plan.now.changes.items ≡ [] → shelf.new ≡ shelf.old }
 {
     if let Err(fault) = make_all(alloc, &plan.changes, shelf) {
         return Status::of_shelf(fault);

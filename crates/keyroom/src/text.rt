@@ -45,7 +45,7 @@ fn put_members(text: &mut String, members: &StateList) -> Result<(), OutOfMemory
 }
 
 /// Appends two hexadecimal digits for each byte.
-fn put_hex(text: &mut String, bytes: &[u8; 32]) -> Result<(), OutOfMemory>
+pub fn put_hex(text: &mut String, bytes: &[u8; 32]) -> Result<(), OutOfMemory>
     ensures { OnOk result (string_bytes text.new ≡ string_bytes text.old ++ hex_text bytes.now) }
 {
     for byte in bytes {

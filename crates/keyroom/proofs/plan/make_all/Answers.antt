@@ -1,4 +1,4 @@
-use Rattle.std.proofs.Common.{arith}
+use Rattle.std.proofs.Common.{length, ap, arith}
 use Rattle.std.proofs.lemmas.Result.{err_from_is_err_and}
 use Rattle.keyroom.specs.Changes.{change_of}
 use Rattle.keyroom.proofs.Changes.{made_more, part_way}
@@ -14,4 +14,5 @@ loop-change-preserved g c = record {
   held = made_more change_of c.args.changes.now c.loop-change.change-index c.change-item.result (omega arith) c.change-item.is _ _ _ c.loop-change.invariant.held c.in_ok-make.ensures.made;
   later = omega (arith, c.loop-change.invariant.later, c.in_ok-make.ensures.cause.later);
   calm = λ is. c.in_ok-make.ensures.calm (c.loop-change.invariant.calm is);
+  untouched = λ e. absurd (omega (arith, ap length e));
 }
