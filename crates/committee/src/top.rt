@@ -36,8 +36,8 @@ ghost use Rattle.commands.specs.Causes.{before_text, IsCounted, IsFromCommand};
 ghost use Rattle.commands.specs.Crews.{Lent};
 ghost use Rattle.committee.specs.Crews.{AllAttended, AllAttendedFor};
 
-use commands::{plan_create, plan_move, plan_refresh};
 use crate::rehearse::plan_rehearsal;
+use commands::{plan_create, plan_move, plan_refresh};
 use keyroom::{
     Command, Direction, Plan, Status, carry_out, plan_check, plan_document, plan_recover,
     read_words,

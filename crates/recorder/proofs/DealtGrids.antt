@@ -59,7 +59,6 @@ module _ {A : Type 0} where
       (flat_up drilled f (first + 1) all (λ member place at lt. each member (suc place) (omega (arith, at)) (omega (arith, lt))))
 
 -- ---- dealer by dealer
--- TODO-lead: it stands in plays, where it isn't public
 grid_there : (own : ℕ → List (List (List Fp))) (dealer lane : ℕ) → 1 ≤ dealer → lane < 5 → get_or (own (dealer_of (instance_at dealer lane))) (lane_of (instance_at dealer lane)) [] ≡ get_or (own dealer) lane []
 grid_there own dealer lane from lt =
     let d : dealer_of (instance_at dealer lane) ≡ dealer = omega (arith, from, lt) in

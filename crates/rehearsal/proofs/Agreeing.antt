@@ -12,7 +12,6 @@ use Rattle.viewshift.specs.Fits.{FitsAt}
 use Rattle.viewshift.specs.Walk.{AreLeft, IsAt}
 use Rattle.rehearsal_laws.proofs.One.{same_shares}
 
--- TODO-lead: the same stands in `rehearsal_laws/proofs/One`, not pub
 abbrev pub AgreeTo : List Phase → List Phase → ℕ → Type 0
 AgreeTo phases others n = (place : ℕ) → place < n → phase_at phases place ≡ phase_at others place
 

@@ -92,7 +92,13 @@ fn live_on<C: Crew, R: Threads + Wait + Sync>(
     let place = phases.len();
     let begun = begun_with(alloc, scene.old_side().shareless, shares.as_slice())?;
     let recorded = record_phase(
-        rt, alloc, number, place as u32, scene, begun.as_slice(), crew,
+        rt,
+        alloc,
+        number,
+        place as u32,
+        scene,
+        begun.as_slice(),
+        crew,
     )?;
     phases.push(recorded.phase)?;
     accepted.push(recorded.accepted)?;

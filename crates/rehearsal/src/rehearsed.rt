@@ -67,11 +67,7 @@ pub fn rehearse_run<C: Crew, R: Threads + Wait + Sync>(
 }
 
 // The history of phases and masks that are known to be one. The error is want of memory.
-fn history_of(
-    alloc: Global,
-    phases: PhaseList,
-    exposed: NumberList,
-) -> Result<History, OutOfMemory>
+fn history_of(alloc: Global, phases: PhaseList, exposed: NumberList) -> Result<History, OutOfMemory>
     requires few { length phases < 2 ^ 32 }
     requires history { AreHistory phases exposed }
     ensures { IfOk result (λ history. history ≡ record { phases = phases; exposed = exposed }) }

@@ -72,9 +72,11 @@ returns-in-Ok-clause-attended g c = λ made. attended_for (texts c.args.words.no
 
 pub returns-in-Ok-clause-rehearsed : goal.returns-in-Ok-clause-rehearsed
 returns-in-Ok-clause-rehearsed g c members bound periods number reads =
-    let left = planned_for (texts c.args.words.now) (command_of c.in-Some.command) members bound periods number c.args.shelf.now c.plan.new.shelf c.args.entropy.now c.plan.new.entropy (Ok c.in-Ok.plan) c.in-Some.ensures.found reads c.in-Ok.ensures.rehearsed in
-    (c.carry_out.ensures.untouched left.2.0 ∙ left.0, left.1,
-      ends_told (IsTextOf members bound periods number) c.in-Ok.plan (g.H.Shelf.held c.plan.new.shelf) (g.H.Shelf.held c.carry_out.new.shelf) (g.K.Sink.told c.args.out.now) (g.K.Sink.told c.carry_out.new.out) _ left.2.0 left.2.1 c.carry_out.ensures.carried)
+    let left = planned_for (texts c.args.words.now) (command_of c.in-Some.command) members bound periods number c.args.shelf.now c.plan.new.shelf c.args.entropy.now c.plan.new.entropy (Ok c.in-Ok.plan) c.in-Some.ensures.found reads c.in-Ok.ensures.rehearsed in (
+      c.carry_out.ensures.untouched left.2.0 ∙ left.0,
+      left.1,
+      ends_told (IsTextOf members bound periods number) c.in-Ok.plan (g.H.Shelf.held c.plan.new.shelf) (g.H.Shelf.held c.carry_out.new.shelf) (g.K.Sink.told c.args.out.now) (g.K.Sink.told c.carry_out.new.out) _ left.2.0 left.2.1 c.carry_out.ensures.carried,
+    )
 
 pub returns-in-Err-clause-rehearsed : goal.returns-in-Err-clause-rehearsed
 returns-in-Err-clause-rehearsed g c members bound periods number reads =

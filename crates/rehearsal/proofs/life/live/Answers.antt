@@ -22,7 +22,7 @@ live_on-requires-clause-scene g c κs within =
 pub loop-place-preserved : goal.loop-place-preserved
 loop-place-preserved g c =
     let there = next_scene c.args.committee.members c.args.committee.bound c.args.number c.loop-place.place c.args.scenes.now _ c.loop-place.life.phases c.requires.scenes c.loop-place-test.true c.loop-place.invariant.count
-      ∙ ap (scene_at c.args.committee.members c.args.committee.bound c.args.number) c.loop-place.invariant.count in
+    ∙ ap (scene_at c.args.committee.members c.args.committee.bound c.args.number) c.loop-place.invariant.count in
     record {
       lived = c.in_ok-life.ensures.lived;
       count = c.in_ok-life.ensures.more ∙ ap (λ (n : ℕ). n + 1) c.loop-place.invariant.count;
@@ -32,8 +32,8 @@ loop-place-preserved g c =
         stays_calm = λ calm. c.in_ok-life.ensures.lent.stays_calm (c.loop-place.invariant.lent.stays_calm calm);
       };
       attended = attended_more _ _ _ _ _ _ c.loop-place.invariant.attended c.in_ok-life.ensures.attended
-        (seats_more c.args.committee.members c.args.committee.bound c.args.number c.loop-place.place
-        ∙ ap (λ (scene : Scene). seats_in (scenes_to c.args.committee.members c.args.committee.bound c.args.number c.loop-place.place) + seats (shape_of scene)) (sym there));
+          (seats_more c.args.committee.members c.args.committee.bound c.args.number c.loop-place.place
+          ∙ ap (λ (scene : Scene). seats_in (scenes_to c.args.committee.members c.args.committee.bound c.args.number c.loop-place.place) + seats (shape_of scene)) (sym there));
     }
 
 pub returns-clause-attended : goal.returns-clause-attended
