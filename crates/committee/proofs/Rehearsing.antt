@@ -1,11 +1,11 @@
 -- A rehearsal in the top call: it has one text, its plan is what it means, and it leaves what stood.
-use Rattle.std.proofs.Common.{◌≡◌, ℕ, ◌+◌, ◌<◌, ◌≤◌, true, List, [], length, map, get_or, Option, Some, None, Result, Ok, Err, refl, sym, ap, ◌∙◌, subst, arith}
+use Rattle.std.proofs.Common.{◌≡◌, ℕ, true, List, [], Option, Some, None, Result, Ok, Err, refl, sym, ap, ◌∙◌, subst}
 use Rattle.std.specs.Prelude.{IfOk, IfErr, IfSome, string_bytes}
 use Rattle.sizes.specs.Committees.{is_bound, is_size}
 use Rattle.shelf.specs.Held.{Held}
 use Rattle.keyroom.specs.declared.plan.Plan.{Plan}
 use Rattle.keyroom.specs.declared.status.Status.{Status}
-use Rattle.keyroom.specs.Causes.{Cause, Done, Refusal, Shelf, Entropy, Crew, Sink, Memory, cause_of}
+use Rattle.keyroom.specs.Causes.{Cause, Done, Refusal, Shelf, Entropy, Crew, Sink, Memory}
 use Rattle.keyroom.specs.Outcome.{Outcome, done}
 use Rattle.keyroom.specs.Answer.{Carries}
 use Rattle.keyroom.specs.Changes.{changes_of}

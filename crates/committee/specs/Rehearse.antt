@@ -1,5 +1,5 @@
 -- The meaning of `rehearse N T PERIODS NUMBER`.
-use Rattle.std.specs.Prelude.{◌≡◌, ℕ, ◌+◌, List, [], string_bytes, Option, Result, Ok, Err}
+use Rattle.std.specs.Prelude.{◌≡◌, ℕ, List, [], string_bytes, Option, Result, Ok, Err}
 use Rattle.keyroom.specs.declared.plan.Plan.{Plan}
 use Rattle.keyroom.specs.declared.status.Status.{Status}
 use Rattle.keyroom.specs.Causes.{Cause, Done, Shelf, Crew, Sink, Memory, cause_of}

@@ -1,13 +1,11 @@
 -- There is one text: the words of a rehearsal tell all that is printed.
-use Rattle.std.proofs.Common.{◌≡◌, ℕ, ◌<◌, true, List, length, get_or, sym, ap, ap₂, ◌∙◌, subst, arith}
+use Rattle.std.proofs.Common.{◌≡◌, ℕ, ◌<◌, true, List, sym, ap, ap₂, ◌∙◌, subst, arith}
 use Rattle.std.proofs.lemmas.List.{ext_get_or}
 use Rattle.algebra61.specs.Field.{Fp, zeroₚ}
 use Rattle.sizes.specs.Committees.{is_bound, is_size}
 use Rattle.scenes.specs.declared.scene.Scene.{Scene}
 use Rattle.viewshift.specs.Fits.{AreHistory}
-use Rattle.viewshift.specs.Key.{HasKey}
 use Rattle.viewshift.specs.Kept.{HistoryValue}
-use Rattle.viewshift.specs.Others.{meant, other_history}
 use Rattle.viewshift.proofs.Others.{others_are_history}
 use Rattle.viewshift.proofs.Standing.{lists_are_history}
 use Rattle.rehearsal_laws.specs.Rehearsal.{IsRehearsal}

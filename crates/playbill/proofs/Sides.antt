@@ -1,5 +1,5 @@
 -- The phases of a rehearsal are ones of committees that a command can make.
-use Rattle.std.proofs.Common.{◌≡◌, ℕ, ◌<◌, true, List, length, get_or, map, sym, subst, arith}
+use Rattle.std.proofs.Common.{◌≡◌, ℕ, true, List, map, sym, subst, arith}
 use Rattle.std.specs.Prelude.{All}
 use Rattle.sizes.specs.Committees.{is_bound, is_size}
 use Rattle.talk.specs.Basics.{places}

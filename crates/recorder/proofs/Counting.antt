@@ -1,6 +1,6 @@
 -- The record of a play has as many accepted instances as the play.
-use Rattle.std.proofs.Common.{◌≡◌, ℕ, ◌<◌, Bool, List, cond, map, sum, refl, sym, ap, ◌∙◌, arith}
-use Rattle.std.specs.List.{count_by, range_with_len}
+use Rattle.std.proofs.Common.{◌≡◌, ℕ, ◌<◌, Bool, cond, sum, sym, ap, ◌∙◌, arith}
+use Rattle.std.specs.List.{count_by}
 use Rattle.std.proofs.lemmas.List.Sums.{sum-map}
 use Rattle.sharing61.specs.Instance.{accepted}
 use Rattle.talk.specs.Shape.{Lawful, Shape, instances}

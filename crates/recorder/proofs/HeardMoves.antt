@@ -12,7 +12,7 @@ use Rattle.moveshare.specs.Minds.{mind_ways, part_of}
 use Rattle.moveshare.specs.declared.mind.MoveMind.{MoveMind}
 use Rattle.drillbook.specs.Word.{DrilledMind, drilled_ways}
 use Rattle.commands.specs.Late.{down_after}
-use Rattle.commands.specs.Move.{down_moving, moving, moving_of, movers_on, play_moved, seats_in}
+use Rattle.commands.specs.Move.{down_moving, moving, moving_of, play_moved, seats_in}
 use Rattle.commands.specs.MovePhase.{MayMove, minds_on}
 use Rattle.commands.specs.Run.{drilled_all}
 use Rattle.commands.specs.Standing.{Standing, held_on, holdings}

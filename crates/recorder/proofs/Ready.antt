@@ -11,7 +11,6 @@ use Rattle.drillbook.specs.Orders.{names}
 use Rattle.sharefile.specs.Files.{Now, IsNow}
 use Rattle.keyroom.specs.declared.steps.Found.{Found}
 use Rattle.keyroom.specs.Sound.{is_valid}
-use Rattle.commands.specs.MovePhase.{MayMove}
 use Rattle.commands.specs.Phase.{IsReady, shares_given, unless_down}
 use Rattle.commands.specs.Standing.{down_in, seeds_for}
 use Rattle.scenes.specs.declared.side.Side.{Side}

@@ -1,17 +1,15 @@
 -- The phases of a rehearsal, and one more that is played behind them.
-use Rattle.std.proofs.Common.{inl, inr, ◌≡◌, ℕ, zero, suc, ◌+◌, ◌<◌, ◌≤◌, true, List, [], ◌∷◌, ◌++◌, length, map, get_or, Option, refl, sym, ap, ap₂, ◌∙◌, subst, arith}
+use Rattle.std.proofs.Common.{inl, inr, ◌≡◌, ℕ, zero, suc, ◌+◌, ◌<◌, true, List, [], length, map, get_or, Option, refl, sym, ap, ◌∙◌, subst, arith}
 use Rattle.std.proofs.lemmas.Bool.{cases_lt}
 use Rattle.std.proofs.lemmas.List.FromFn.{get_or-map-range_with_len}
 use Rattle.algebra61.specs.Field.{Fp, zeroₚ}
 use Rattle.sizes.specs.Committees.{is_bound, is_size}
 use Rattle.talk.specs.Basics.{places}
 use Rattle.talk.specs.Sync.{has}
-use Rattle.histories61.specs.Phases.{FirstFits, Moved, receivers_down}
-use Rattle.histories61.specs.Course.{Course, FitsTo, HasErrors, PhaseFits, share_after_phase}
+use Rattle.histories61.specs.Course.{FitsTo, share_after_phase}
 use Rattle.histories61.proofs.Errors.{one_share}
 use Rattle.playback.specs.declared.phase.Phase.{Phase}
-use Rattle.playback.specs.Recorded.{kind_of, play_of}
-use Rattle.playback.specs.Kept.{IsKept}
+use Rattle.playback.specs.Recorded.{play_of}
 use Rattle.viewshift.specs.Listed.{course_of, phase_at}
 use Rattle.viewshift.specs.Fits.{FitsAt}
 use Rattle.viewshift.specs.Walk.{IsAt}
@@ -29,11 +27,11 @@ use Rattle.scenes.proofs.Sides.{scenes_are}
 use Rattle.rehearsal_laws.specs.Played.{IsPlayed}
 use Rattle.rehearsal_laws.specs.Rehearsal.{ArePhases, IsPlayedAt, lanes_after, shares_before}
 use Rattle.rehearsal_laws.proofs.Fitting.{HasConstants, IsOf, first_fits, holder_down, holders_are, next_fits}
-use Rattle.rehearsal_laws.proofs.History.{each_fits, fit_together}
+use Rattle.rehearsal_laws.proofs.History.{fit_together}
 use Rattle.rehearsal_laws.proofs.One.{same_shares}
 use Rattle.rehearsal_laws.proofs.Phases.{constants_same, created_is, first_scene, later_scene, phase_is, played_constants, played_is}
 use Rattle.rehearsal.specs.Lived.{begun_with}
-use Rattle.rehearsal.proofs.Agreeing.{AgreeTo, agree_less, fits_at, fits_to, is_at}
+use Rattle.rehearsal.proofs.Agreeing.{AgreeTo, agree_less, fits_to, is_at}
 use Rattle.rehearsal.proofs.Beginning.{begun_is}
 
 -- a create begins with no shares, whatever is handed in

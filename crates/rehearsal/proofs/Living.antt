@@ -1,5 +1,5 @@
 -- A life that goes on for one more phase.
-use Rattle.std.proofs.Common.{◌≡◌, ℕ, zero, suc, ◌+◌, ◌<◌, ◌≤◌, true, List, [], ◌∷◌, ◌++◌, length, map, Option, sym, ap, ◌∙◌, subst, arith}
+use Rattle.std.proofs.Common.{◌≡◌, ℕ, zero, suc, ◌+◌, ◌≤◌, true, List, [], ◌∷◌, ◌++◌, length, Option, sym, ap, ◌∙◌, subst, arith}
 use Rattle.std.proofs.lemmas.List.{get_or_append_left, length-append, map-append}
 use Rattle.std.proofs.Math.Seq.{get_or-append_seam}
 use Rattle.algebra61.specs.Field.{Fp}
@@ -14,7 +14,7 @@ use Rattle.viewshift.proofs.Standing.{all_there, together}
 use Rattle.scenes.specs.declared.scene.Scene.{Scene}
 use Rattle.scenes.specs.declared.scene.Scene.TheVariants.{Create, Refresh, Move}
 use Rattle.scenes.specs.declared.side.Side.{Side}
-use Rattle.scenes.specs.Scenes.{new_side, old_side, scene_at, side_drawn}
+use Rattle.scenes.specs.Scenes.{new_side, old_side, scene_at}
 use Rattle.scenes.proofs.Sides.{few_members, scenes_are}
 use Rattle.recorder.specs.Begun.{HaveShares, IsBegun}
 use Rattle.rehearsal_laws.specs.Played.{IsPlayed}

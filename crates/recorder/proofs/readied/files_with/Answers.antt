@@ -1,6 +1,6 @@
-use Rattle.std.proofs.Common.{◌≡◌, ℕ, ◌+◌, ◌++◌, ◌∷◌, [], ◌<◌, length, take, get_or, List, Option, None, ap, ◌∙◌, sym, arith, rules}
+use Rattle.std.proofs.Common.{◌≡◌, ◌+◌, ◌++◌, ◌∷◌, [], ◌<◌, length, get_or, None, ap, ◌∙◌, rules}
 use Rattle.std.proofs.lemmas.List.{get_or_default}
-use Rattle.rehearsal_laws.specs.Standing.{file_with, files_with}
+use Rattle.rehearsal_laws.specs.Standing.{file_with}
 use Rattle.recorder.proofs.Ready.{pushed_file}
 use Rattle.recorder.proofs.readied.files_with.Goals as goal
 

@@ -1,7 +1,7 @@
 use Rattle.std.proofs.Common.{◌≡◌, subst, sym, ap, ◌∙◌, rules}
 use Rattle.sharefile.specs.Files.{IsNow}
 use Rattle.commands.specs.Phase.{IsReady, standing_of}
-use Rattle.commands.specs.Standing.{Standing, seeds_for}
+use Rattle.commands.specs.Standing.{seeds_for}
 use Rattle.rehearsal_laws.specs.Standing.{now_before, standing_before}
 use Rattle.scenes.specs.Scenes.{old_side}
 use Rattle.recorder.specs.Begun.{MayGoOn}

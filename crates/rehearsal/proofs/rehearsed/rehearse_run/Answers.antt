@@ -1,4 +1,4 @@
-use Rattle.std.proofs.Common.{◌≡◌, ℕ, ◌+◌, length, ap, sym, ◌∙◌, refl, arith, rules}
+use Rattle.std.proofs.Common.{◌≡◌, ◌+◌, length, ap, sym, ◌∙◌, arith, rules}
 use Rattle.rehearsal.specs.Lived.{scenes_to}
 use Rattle.rehearsal.proofs.Played.{lived_history, rehearsal_made, scenes_many}
 use Rattle.rehearsal.proofs.rehearsed.rehearse_run.Goals as goal

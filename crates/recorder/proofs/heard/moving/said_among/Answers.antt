@@ -1,4 +1,4 @@
-use Rattle.std.proofs.Common.{◌≡◌, ℕ, List, ap, ◌∙◌}
+use Rattle.std.proofs.Common.{ℕ, List, ap, ◌∙◌}
 use Rattle.algebra61.specs.Field.{Fp}
 use Rattle.drillbook.specs.Word.{drilled_ways}
 use Rattle.moveshare.specs.Minds.{mind_ways}

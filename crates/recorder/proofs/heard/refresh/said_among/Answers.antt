@@ -1,8 +1,6 @@
-use Rattle.std.proofs.Common.{◌≡◌, ℕ, ◌-◌, List, ap, ◌∙◌}
-use Rattle.talk.specs.declared.part.Part.{Part}
 use Rattle.talk.specs.Part.{part_made_for, part_may, part_ways}
-use Rattle.drillbook.specs.Word.{DrilledMind, drilled_ways}
-use Rattle.periods.specs.Keeper.{Keeper, keeper_ways}
+use Rattle.drillbook.specs.Word.{drilled_ways}
+use Rattle.periods.specs.Keeper.{keeper_ways}
 use Rattle.zeroshare.specs.Refresh.{keeper_made_for, keeper_may}
 use Rattle.commands.specs.Late.{down_after}
 use Rattle.commands.specs.Phase.{standing_of}
