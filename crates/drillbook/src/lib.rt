@@ -9,8 +9,6 @@ mod order;
 mod read;
 mod side;
 mod telling;
-#[cfg(test)]
-mod tests;
 mod words;
 
 pub use drill::Drill;

@@ -4,8 +4,6 @@
 mod masks;
 mod rounds;
 mod run;
-#[cfg(test)]
-mod tests;
 
 pub use rounds::{hear_all, say_all};
 pub use run::drive;

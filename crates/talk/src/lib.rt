@@ -10,8 +10,6 @@ mod part;
 mod rows;
 mod setting;
 mod shapes;
-#[cfg(test)]
-mod tests;
 
 pub use driven::Driven;
 pub use masks::{all_in, in_mask, mask_with};

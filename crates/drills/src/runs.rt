@@ -6,7 +6,7 @@ ghost use Rattle.talk.specs.declared.messages.Post.TheVariants.{Complaints};
 ghost use Rattle.talk.specs.declared.messages.Ring.TheVariants.{Nothing};
 ghost use Rattle.talk.specs.declared.messages.Say.TheVariants.{Pass, PassThenSpeak, Speak};
 
-use crate::drive;
+use driver::drive;
 use lists::OutOfMemory;
 use std::alloc::Global;
 use talk::{ComplaintList, Heard, Mind, Post, PostList, Ring, RingList, Say, Setting};

@@ -2,7 +2,7 @@
 //! coefficient each.
 
 use super::minds::{Manner, place_at, says};
-use crate::DrillFault;
+use drillbook::DrillFault;
 use talk::Setting;
 
 #[test]

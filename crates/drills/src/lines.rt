@@ -1,6 +1,6 @@
 //! Reading drills.
 
-use crate::{Drill, DrillFault, Order, Verb, read_drill};
+use drillbook::{Drill, DrillFault, Order, Verb, read_drill};
 use field61::Fe;
 use lists::OutOfMemory;
 use std::alloc::Global;

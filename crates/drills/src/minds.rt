@@ -4,13 +4,13 @@ ghost use Rattle.std.specs.Prelude.{eqb, cond, IfOk};
 ghost use Rattle.talk.specs.Hears.{OneEach, WordFits};
 
 use super::numbers::{is_written, write_word};
-use crate::{DrillFault, Drilled, read_drill};
-use field61::{Fe, FeList};
+use super::values::{steps, votes};
+use drillbook::{DrillFault, Drilled, read_drill};
+use field61::Fe;
 use lists::{OutOfMemory, TryCopy};
 use std::alloc::Global;
 use talk::{
     Complaint, ComplaintList, Heard, Mind, Post, Reveal, RevealList, Ring, RingList, Say, Setting,
-    VoteList,
 };
 
 // A mind that says one word in the second round and another in every other round.
@@ -81,17 +81,6 @@ pub(crate) fn place_at(setting: Setting, seat: u32, manner: Manner) -> Place {
     }
 }
 
-// `count` elements from `first` on, each `step` above the one before.
-fn steps(alloc: Global, first: u64, step: u64, count: u64) -> Result<FeList, OutOfMemory> {
-    let mut list = FeList::new(alloc);
-    let mut next = Fe::reduce(first);
-    for _ in 0..count {
-        list.push(next)?;
-        next = next.add(Fe::reduce(step));
-    }
-    Ok(list)
-}
-
 fn complaint(instance: u32, against: u32, value: u64) -> Complaint {
     Complaint {
         instance,
@@ -134,14 +123,6 @@ fn reveals(alloc: Global, count: u64) -> Result<Post, OutOfMemory> {
     Ok(Post::Reveals { list })
 }
 
-fn votes(alloc: Global) -> Result<Post, OutOfMemory> {
-    let mut list = VoteList::new(alloc);
-    list.push(true)?;
-    list.push(false)?;
-    list.push(true)?;
-    Ok(Post::Votes { list })
-}
-
 // Four values, the last of which is the greatest.
 fn syndromes(alloc: Global) -> Result<Post, OutOfMemory> {
     let mut list = steps(alloc, 1, 1, 3)?;
@@ -154,7 +135,7 @@ fn post_in(alloc: Global, setting: &Setting, round: u32) -> Result<Post, OutOfMe
     match round {
         3 => complaints(alloc),
         4 => reveals(alloc, u64::from(setting.degree()) + 1),
-        5 => votes(alloc),
+        5 => votes(alloc, 3),
         6 => syndromes(alloc),
         _ => Ok(Post::Quiet),
     }

@@ -2,7 +2,7 @@
 
 use super::minds::{Manner, Place, said};
 use super::numbers::{is_written, write_word};
-use crate::DrillFault;
+use drillbook::DrillFault;
 use lists::OutOfMemory;
 use std::alloc::Global;
 use talk::{Setting, shape_ok};

@@ -1,25 +1,13 @@
 //! Tests of shapes, settings and masks.
 
-use super::*;
-use field61::{Fe, FeList};
+use super::values::{steps, votes};
+use field61::Fe;
 use lists::{OutOfMemory, TryCopy};
 use std::alloc::Global;
-
-fn elements(alloc: Global, count: u32) -> Result<FeList, OutOfMemory> {
-    let mut list = FeList::new(alloc);
-    for k in 0..count {
-        list.push(Fe::reduce(u64::from(k)))?;
-    }
-    Ok(list)
-}
-
-fn votes(alloc: Global, count: u32) -> Result<Post, OutOfMemory> {
-    let mut list = VoteList::new(alloc);
-    for k in 0..count {
-        list.push(k % 2 == 0)?;
-    }
-    Ok(Post::Votes { list })
-}
+use talk::{
+    Complaint, ComplaintList, Post, Reveal, RevealList, Ring, Setting, as_read, in_mask, mask_with,
+    ring_as_read, ring_ok, shape_ok,
+};
 
 fn complaints(alloc: Global, items: &[(u32, u32)]) -> Result<Post, OutOfMemory> {
     let mut list = ComplaintList::new(alloc);
@@ -35,14 +23,14 @@ fn complaints(alloc: Global, items: &[(u32, u32)]) -> Result<Post, OutOfMemory> 
 }
 
 // Reveals by lane, receiver and number of coefficients of the row; columns have two.
-fn reveals(alloc: Global, items: &[(u32, u32, u32)]) -> Result<Post, OutOfMemory> {
+fn reveals(alloc: Global, items: &[(u32, u32, u64)]) -> Result<Post, OutOfMemory> {
     let mut list = RevealList::new(alloc);
     for (lane, receiver, count) in items {
         list.push(Reveal {
             lane: *lane,
             receiver: *receiver,
-            row: elements(alloc, *count)?,
-            column: elements(alloc, 2)?,
+            row: steps(alloc, 0, 1, *count)?,
+            column: steps(alloc, 0, 1, 2)?,
         })?;
     }
     Ok(Post::Reveals { list })
@@ -82,7 +70,7 @@ fn posts_of_a_wrong_shape_are_read_as_quiet(rt: HostRuntime) -> Result<(), OutOf
         (reveals(alloc, &[(1, 1, 2)])?, 4, 5, moving, false),
         (
             Post::Syndromes {
-                list: elements(alloc, 10)?,
+                list: steps(alloc, 0, 1, 10)?,
             },
             6,
             5,
@@ -91,7 +79,7 @@ fn posts_of_a_wrong_shape_are_read_as_quiet(rt: HostRuntime) -> Result<(), OutOf
         ),
         (
             Post::Syndromes {
-                list: elements(alloc, 11)?,
+                list: steps(alloc, 0, 1, 11)?,
             },
             6,
             5,
@@ -132,7 +120,7 @@ fn ring_messages_of_a_wrong_shape_are_read_as_nothing(rt: HostRuntime) -> Result
         (false, 40, 1, 1, 2, create, false),
     ];
     for (k, (dealt, count, round, sender, to, setting, right)) in cases.iter().enumerate() {
-        let list = elements(alloc, *count)?;
+        let list = steps(alloc, 0, 1, *count)?;
         let item = if *dealt {
             Ring::Dealt { list }
         } else {

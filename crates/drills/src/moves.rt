@@ -2,7 +2,7 @@
 //! on the seats 5 to 8. A dealer's row and column have two coefficients each.
 
 use super::minds::{Manner, place_at, says};
-use crate::DrillFault;
+use drillbook::DrillFault;
 use talk::Setting;
 
 #[test]
