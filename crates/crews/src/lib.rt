@@ -18,6 +18,3 @@ pub use hold_crew::HoldCrew;
 pub use member::Member;
 pub use run::{Running, run_all};
 pub use thread_crew::ThreadCrew;
-
-#[cfg(test)]
-mod tests;

@@ -19,6 +19,3 @@ pub use pace::Pace;
 pub use script_pace::ScriptPace;
 pub use still_pace::StillPace;
 pub use turn_pace::TurnPace;
-
-#[cfg(test)]
-mod tests;

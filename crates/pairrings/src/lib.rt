@@ -7,8 +7,6 @@ mod laying;
 mod record;
 mod settling;
 mod tails;
-#[cfg(test)]
-mod tests;
 
 pub use ends::End;
 pub use laying::lay;

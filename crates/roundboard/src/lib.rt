@@ -23,6 +23,3 @@ mod words;
 pub use board::{Board, Look, Passed, Pen, PostFault, Posted, Read, Waited};
 pub use finish::{ClosedBoard, FinishFault, Reader};
 pub use warden::Warden;
-
-#[cfg(test)]
-mod tests;

@@ -1,6 +1,7 @@
+//! Runs of crews.
 ghost use Rattle.std.specs.Prelude.{◌≡◌, ◌+◌, ◌-◌, ◌^◌, min};
 
-use crate::{Crew, CrewFault, FailCrew, HoldCrew, Member, ThreadCrew, run_all};
+use crews::{Crew, CrewFault, FailCrew, HoldCrew, Member, ThreadCrew, run_all};
 use std::alloc::Global;
 use std::sync::atomic::AtomicBool;
 use std::sync::atomic::Ordering::SeqCst;
@@ -62,7 +63,8 @@ fn all_members_attend_once_and_come_back_in_order(rt: HostRuntime) -> Result<(),
     Ok(())
 }
 
-// A crew that refuses this start alone. Answers how many members attended before it was refused, or none where something else came of it.
+// A crew that refuses this start alone. Answers how many members attended before it was refused, or none where
+// something else came of it.
 fn attended_before<R: Threads + Wait + Sync>(
     rt: &R,
     alloc: Global,

@@ -1,4 +1,5 @@
-use crate::{HoldPace, Pace, ScriptPace, StillPace, TurnPace};
+//! What paces cut.
+use paces::{HoldPace, Pace, ScriptPace, StillPace, TurnPace};
 use std::alloc::Global;
 use std::sync::atomic::AtomicBool;
 use std::sync::atomic::Ordering::SeqCst;

@@ -1,9 +1,9 @@
-//! The rings, run.
+//! The rings between two seats, run.
 
 ghost use Rattle.std.specs.Prelude.{◌≡◌, length};
 ghost use Rattle.pairrings.specs.Records.{AreRings};
 
-use crate::{End, finish, lay};
+use pairrings::{End, finish, lay};
 use std::alloc::Global;
 use std::process::Abort;
 use std::test::Fail;
