@@ -1,5 +1,5 @@
 -- The meaning of `rehearse N T PERIODS NUMBER`.
-use Rattle.std.specs.Prelude.{◌≡◌, ℕ, List, [], string_bytes, Option, Result, Ok, Err}
+use Rattle.std.specs.Prelude.{◌≡◌, ℕ, ◌+◌, List, [], string_bytes, Option, Result, Ok, Err}
 use Rattle.keyroom.specs.declared.plan.Plan.{Plan}
 use Rattle.keyroom.specs.declared.status.Status.{Status}
 use Rattle.keyroom.specs.Causes.{Cause, Done, Shelf, Crew, Sink, Memory, cause_of}
@@ -7,8 +7,9 @@ use Rattle.keyroom.specs.Answer.{IsTold, IsPartTold}
 use Rattle.keyroom.specs.Outcome.{Outcome, done}
 use Rattle.keyroom.specs.Words.{Command, Rehearse}
 use Rattle.commands.specs.Causes.{IsOfCrew}
+use Rattle.rehearsal_laws.specs.Rehearsal.{scenes_to}
 use Rattle.rehearsal.specs.Lived.{seats_in}
-use Rattle.playbill.specs.Printed.{IsTextOf, scenes_in}
+use Rattle.playbill.specs.Printed.{IsTextOf}
 
 -- its text is put out; nothing is changed, and no seed is taken
 abbrev pub MeansRehearse : ℕ → ℕ → ℕ → ℕ → Outcome → Type 0
@@ -21,7 +22,7 @@ RehearseTakes count = count ≡ 0
 
 -- how many seats all its phases have
 abbrev pub rehearsal_seats : ℕ → ℕ → ℕ → ℕ → ℕ
-rehearsal_seats members bound periods number = seats_in (scenes_in members bound periods number)
+rehearsal_seats members bound periods number = seats_in (scenes_to members bound number (periods + 1))
 
 -- How it ends, by the cause of the answer: Done has put out such a text, and a fault of the sink a part of one, from its
 -- front; a fault of the crew and want of memory have put out nothing. So has one of the shelf, of which nothing is asked: it

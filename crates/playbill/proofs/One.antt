@@ -1,5 +1,5 @@
 -- There is one text: the words of a rehearsal tell all that is printed.
-use Rattle.std.proofs.Common.{◌≡◌, ℕ, ◌<◌, true, List, sym, ap, ap₂, ◌∙◌, subst, arith}
+use Rattle.std.proofs.Common.{◌≡◌, ℕ, ◌+◌, ◌<◌, true, List, sym, ap, ap₂, ◌∙◌, subst, arith}
 use Rattle.std.proofs.lemmas.List.{ext_get_or}
 use Rattle.algebra61.specs.Field.{Fp, zeroₚ}
 use Rattle.sizes.specs.Committees.{is_bound, is_size}
@@ -8,11 +8,11 @@ use Rattle.viewshift.specs.Fits.{AreHistory}
 use Rattle.viewshift.specs.Kept.{HistoryValue}
 use Rattle.viewshift.proofs.Others.{others_are_history}
 use Rattle.viewshift.proofs.Standing.{lists_are_history}
-use Rattle.rehearsal_laws.specs.Rehearsal.{IsRehearsal}
+use Rattle.rehearsal_laws.specs.Rehearsal.{IsRehearsal, scenes_to}
 use Rattle.rehearsal_laws.proofs.History.{phases_make_history}
 use Rattle.rehearsal_laws.proofs.Rehearsals.{one_others, one_rehearsal}
 use Rattle.playbill.specs.Law.{OneText}
-use Rattle.playbill.specs.Printed.{IsKeyOf, IsTextOf, scenes_in}
+use Rattle.playbill.specs.Printed.{IsKeyOf, IsTextOf}
 use Rattle.playbill.specs.Text.{rehearsal_text}
 
 -- ---- a key
@@ -63,7 +63,7 @@ module _ (members bound periods number : ℕ) (text printed : List ℕ) (size : 
 
   text_same : printed ≡ text
   text_same =
-      let scenes : List Scene = scenes_in members bound periods number in
+      let scenes : List Scene = scenes_to members bound number (periods + 1) in
       also.text_is
       ∙ ap (λ (counts : List ℕ). rehearsal_text scenes counts also.key also.again) same.1
       ∙ ap₂ (λ (key again : List Fp). rehearsal_text scenes is.accepted key again) key_same again_same

@@ -1,18 +1,11 @@
 -- What a rehearsal of these words prints.
-use Rattle.std.specs.Prelude.{◌≡◌, ℕ, ◌+◌, List, length, map}
+use Rattle.std.specs.Prelude.{◌≡◌, ℕ, ◌+◌, List, length}
 use Rattle.algebra61.specs.Field.{Fp}
-use Rattle.talk.specs.Basics.{places}
 use Rattle.viewshift.specs.Key.{HasKey}
 use Rattle.viewshift.specs.Kept.{HistoryValue}
 use Rattle.viewshift.specs.Others.{meant}
-use Rattle.scenes.specs.declared.scene.Scene.{Scene}
-use Rattle.scenes.specs.Scenes.{scene_at}
-use Rattle.rehearsal_laws.specs.Rehearsal.{IsRehearsal}
+use Rattle.rehearsal_laws.specs.Rehearsal.{IsRehearsal, scenes_to}
 use Rattle.playbill.specs.Text.{rehearsal_text}
-
--- the first phase, and one for each of so many periods after it
-abbrev pub scenes_in : ℕ → ℕ → ℕ → ℕ → List Scene
-scenes_in members bound periods number = map (scene_at members bound number) (places (periods + 1))
 
 -- the key of a history, with a lane for each of the five
 pub record IsKeyOf (history : HistoryValue) (key : List Fp) : Type 0 where
@@ -31,4 +24,4 @@ pub record IsTextOf (members bound periods number : ℕ) (text : List ℕ) : Typ
   pub is_key : IsKeyOf history key
   pub again : List Fp
   pub is_again : IsKeyOf other again
-  pub text_is : text ≡ rehearsal_text (scenes_in members bound periods number) accepted key again
+  pub text_is : text ≡ rehearsal_text (scenes_to members bound number (periods + 1)) accepted key again

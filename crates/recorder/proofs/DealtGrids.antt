@@ -11,6 +11,7 @@ use Rattle.sizes.specs.Instances.{dealer_of, lane_of, instance_at}
 use Rattle.talk.specs.Sync.{has}
 use Rattle.plays.specs.Play.{Play}
 use Rattle.plays.specs.Said.{places, points_up_to}
+use Rattle.periods.proofs.Polynomials.{dealer_there}
 use Rattle.drillbook.specs.declared.order.Order.{Order}
 use Rattle.drillbook.specs.Orders.{wrong_of}
 use Rattle.sharefile.specs.Files.{Now}
@@ -61,9 +62,8 @@ module _ {A : Type 0} where
 -- ---- dealer by dealer
 grid_there : (own : ℕ → List (List (List Fp))) (dealer lane : ℕ) → 1 ≤ dealer → lane < 5 → get_or (own (dealer_of (instance_at dealer lane))) (lane_of (instance_at dealer lane)) [] ≡ get_or (own dealer) lane []
 grid_there own dealer lane from lt =
-    let d : dealer_of (instance_at dealer lane) ≡ dealer = omega (arith, from, lt) in
     let l : lane_of (instance_at dealer lane) ≡ lane = omega (arith, lt) in
-    ap₂ (λ (n m : ℕ). get_or (own n) m []) d l
+    ap₂ (λ (n m : ℕ). get_or (own n) m []) (dealer_there dealer lane from lt) l
 
 module _ (play : Play) (own : ℕ → List (List (List Fp))) (grid_is : (i : ℕ) → play.grid i ≡ get_or (own (dealer_of i)) (lane_of i) []) where
   -- those of a dealer are its own five

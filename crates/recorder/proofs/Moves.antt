@@ -1,5 +1,5 @@
 -- A run of a drawn move, in which nobody is cut: whom it leaves, and the record that is made of it.
-use Rattle.std.proofs.Common.{◌≡◌, ℕ, ◌+◌, ◌-◌, ◌^◌, ◌<◌, ◌≤◌, Bool, cond, List, length, Option, Result, Ok, Err, refl, sym, ap, ◌∙◌, subst, arith}
+use Rattle.std.proofs.Common.{◌≡◌, ℕ, ◌+◌, ◌-◌, ◌^◌, ◌<◌, ◌≤◌, Bool, cond, List, Option, Result, Ok, Err, refl, sym, ap, ◌∙◌, subst, arith}
 use Rattle.algebra61.specs.Field.{Fp}
 use Rattle.sharing61.specs.Count.{how_many}
 use Rattle.sharing61.proofs.Count.{how_many_same}
@@ -19,7 +19,7 @@ use Rattle.commands.specs.Causes.{IsOfCrew, IsFromCrew, IsOfPhase, IsFromPhase}
 use Rattle.commands.specs.Late.{down_after, enough_after}
 use Rattle.commands.specs.Move.{AreMoveMasks, down_moving, enough_moved, moving_of, new_down, play_moved}
 use Rattle.commands.specs.MovePhase.{RefusesPhase}
-use Rattle.commands.specs.Standing.{Standing, seeds_for}
+use Rattle.commands.specs.Standing.{Standing}
 use Rattle.commands.proofs.Late.{not_less}
 use Rattle.scenes.specs.declared.side.Side.{Side}
 use Rattle.scenes.specs.declared.scene.Scene.TheVariants.{Move}
@@ -28,12 +28,11 @@ use Rattle.scenes.specs.Lawful.{AreOrders}
 use Rattle.scenes.specs.Orders.{shape_of}
 use Rattle.rehearsal_laws.specs.Down.{down_on}
 use Rattle.rehearsal_laws.specs.Played.{AreUncut, IsPlayed, kind_in, play_under}
-use Rattle.rehearsal_laws.specs.Standing.{later_seeds, now_before, standing_before}
+use Rattle.rehearsal_laws.specs.Standing.{later_seeds, standing_before}
 use Rattle.rehearsal_laws.proofs.Downs.{few_beginners, few_receivers}
 use Rattle.rehearsal_laws.proofs.Moved.{move_down, move_is_play}
 use Rattle.recorder.specs.Begun.{HaveShares}
 use Rattle.recorder.specs.Dealt.{AreGridsOf}
-use Rattle.recorder.proofs.Ready.{seeds_valid}
 use Rattle.recorder.proofs.Recording.{AreDown, IsReadOff, as_many, marks_down, record_made}
 
 -- ---- refusals
@@ -70,12 +69,6 @@ module _ (number place : ℕ) (old new : Side) (shares : List (Option (List Fp))
 
   is_play : IsPlayUnder shares
   is_play = subst IsPlayUnder (sym have.1) (λ masks uncut. move_is_play number place old new have.0 sides told masks uncut)
-
-  -- a seed for each share file, whatever the number of the period is
-  pub seeds_there : (other : ℕ) → length (later_seeds number place old) ≡ seeds_for (standing_before other (Move old new) shares)
-  seeds_there other =
-      seeds_valid number place old (now_before other old) have.0
-      ∙ sym (ap (λ (given : List (Option (List Fp))). seeds_for (standing_before other (Move old new) given)) have.1)
 
   -- the play over what was found and drawn
   play_at : (st : Standing) (seeds : List (List ℕ)) → st ≡ standing_before place (Move old new) shares → seeds ≡ later_seeds number place old → (masks : List ℕ) →

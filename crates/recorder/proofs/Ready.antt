@@ -1,5 +1,5 @@
 -- What the members of a later phase find is ready for it.
-use Rattle.std.proofs.Common.{◌≡◌, ℕ, zero, suc, ◌+◌, ◌≤◌, ◌<◌, Bool, cond, true, false, not, List, [], ◌∷◌, ◌++◌, length, map, take, get_or, count_by, Option, None, refl, sym, ap, ap₂, ◌∙◌, subst, arith}
+use Rattle.std.proofs.Common.{◌≡◌, ℕ, zero, suc, ◌+◌, ◌≤◌, ◌<◌, Bool, cond, not, List, [], ◌∷◌, ◌++◌, length, map, take, get_or, count_by, Option, None, refl, sym, ap, ap₂, ◌∙◌, subst, arith}
 use Rattle.std.specs.List.{filter, range_with_len}
 use Rattle.std.proofs.lemmas.Grind.{take_at_read}
 use Rattle.std.proofs.lemmas.List.{length-map, length-take}
@@ -21,10 +21,11 @@ use Rattle.scenes.specs.Lawful.{AreOrders}
 use Rattle.scenes.specs.Numbers.{seed_of}
 use Rattle.scenes.specs.Orders.{orders_of}
 use Rattle.scenes.specs.Scenes.{is_down_on, is_drilled, old_side}
+use Rattle.rehearsal_laws.specs.Played.{IsLater}
 use Rattle.rehearsal_laws.specs.Standing.{file_with, files_with, later_seeds, now_before, standing_before}
-use Rattle.rehearsal_laws.proofs.Files.{down_by_files, length_files}
+use Rattle.rehearsal_laws.proofs.Files.{down_by_files, length_files, valid_unless}
 use Rattle.rehearsal_laws.proofs.Moved.{can, named_old}
-use Rattle.recorder.specs.Begun.{HaveShares, IsBegun, IsLater, MayGoOn}
+use Rattle.recorder.specs.Begun.{HaveShares, IsBegun, MayGoOn}
 
 -- ---- files that are pushed one after another
 pub more_files : (now : Now) (member : ℕ) (before : List (Option (List Fp))) (shares : Option (List Fp)) →
@@ -35,24 +36,27 @@ more_files now member (first ∷ rest) shares =
     ap (λ (files : List Found). file_with now member first ∷ files) (more_files now (member + 1) rest shares ∙ ap (λ (index : ℕ). files_with now (member + 1) rest ++ file_with now index shares ∷ []) e)
 
 -- ---- there is a seed for each file
-valid_where : (now : Now) (member : ℕ) (without : Bool) (lanes : List Fp) → is_valid (file_with now member (unless_down without lanes)) ≡ not without
-valid_where now member true lanes = refl
-valid_where now member false lanes = refl
-
 valid_from : (now : Now) (without : ℕ → Bool) (lanes : ℕ → List Fp) (first n : ℕ) →
     count_by (λ (member : ℕ). not (without member)) (range_with_len first n) ≡ count_by is_valid (files_with now first (map (λ j. unless_down (without j) (lanes j)) (range_with_len first n)))
 valid_from now without lanes first zero = refl
 valid_from now without lanes first (suc n) =
     sum_by-cons (λ (member : ℕ). cond (not (without member)) 1 0) first (range_with_len (first + 1) n)
-    ∙ ap₂ (λ (is : Bool) (count : ℕ). cond is 1 0 + count) (sym (valid_where now first (without first) (lanes first))) (valid_from now without lanes (first + 1) n)
+    ∙ ap₂ (λ (is : Bool) (count : ℕ). cond is 1 0 + count) (sym (valid_unless now first (without first) (lanes first))) (valid_from now without lanes (first + 1) n)
     ∙ sym (sum_by-cons (λ (file : Found). cond (is_valid file) 1 0) (file_with now first (unless_down (without first) (lanes first))) (files_with now (first + 1) (map (λ j. unless_down (without j) (lanes j)) (range_with_len (first + 1) n))))
 
-pub seeds_valid : (number place : ℕ) (side : Side) (now : Now) (lanes : ℕ → List Fp) →
+seeds_valid : (number place : ℕ) (side : Side) (now : Now) (lanes : ℕ → List Fp) →
     length (later_seeds number place side) ≡ count_by is_valid (files_with now 1 (shares_given (has side.shareless) lanes side.members))
 seeds_valid number place side now lanes =
     length-map (filter (λ (member : ℕ). not (has side.shareless member)) (range_with_len 1 side.members)) (seed_of number place)
     ∙ length-filter (λ (member : ℕ). not (has side.shareless member)) (range_with_len 1 side.members)
     ∙ valid_from now (has side.shareless) lanes 1 side.members
+
+-- whatever the number of the period is
+pub seeds_anywhere : (number place : ℕ) (scene : Scene) (shares : List (Option (List Fp))) → HaveShares (old_side scene) shares → (other : ℕ) →
+    length (later_seeds number place (old_side scene)) ≡ seeds_for (standing_before other scene shares)
+seeds_anywhere number place scene shares have other =
+    seeds_valid number place (old_side scene) (now_before other (old_side scene)) have.0
+    ∙ sym (ap (λ (given : List (Option (List Fp))). seeds_for (standing_before other scene given)) have.1)
 
 -- ---- who is down
 named_here : (scene : Scene) → AreSides scene → AreOrders scene → IsLater scene → (member : ℕ) → member ≤ (old_side scene).members →
@@ -88,9 +92,6 @@ module _ (place : ℕ) (scene : Scene) (shares : List (Option (List Fp))) (sides
 
   pub ready : IsNow (now_before place (old_side scene)) → IsReady (standing_before place scene shares)
   ready is_now = subst IsReady (sym given) (ready_given is_now)
-
-  pub seeds_there : (number : ℕ) → length (later_seeds number place (old_side scene)) ≡ seeds_for (standing_before place scene shares)
-  seeds_there number = seeds_valid number place (old_side scene) (now_before place (old_side scene)) have.0 ∙ sym (ap seeds_for given)
 
 pub goes_on : (place : ℕ) (scene : Scene) (shares : List (Option (List Fp))) → AreSides scene → AreOrders scene → IsLater scene → HaveShares (old_side scene) shares → IsReady (standing_before place scene shares) →
     MayGoOn scene (standing_before place scene shares)

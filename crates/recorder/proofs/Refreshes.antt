@@ -1,5 +1,5 @@
 -- A refresh in which nobody was cut, and the record of its play.
-use Rattle.std.proofs.Common.{◌≡◌, ℕ, ◌<◌, List, length, Option, refl, sym, ap, ap₂, ◌∙◌, subst, arith}
+use Rattle.std.proofs.Common.{◌≡◌, ℕ, ◌<◌, List, Option, refl, sym, ap₂, ◌∙◌, subst, arith}
 use Rattle.algebra61.specs.Field.{Fp}
 use Rattle.sharing61.specs.Count.{how_many}
 use Rattle.sharing61.proofs.Count.{how_many_same}
@@ -13,7 +13,7 @@ use Rattle.playback.specs.Recorded.{play_of}
 use Rattle.hearsay.specs.Said.{said_in}
 use Rattle.commands.specs.Phase.{IsRefreshPhase}
 use Rattle.commands.specs.Refresh.{play_refreshed}
-use Rattle.commands.specs.Standing.{Standing, seeds_for}
+use Rattle.commands.specs.Standing.{Standing}
 use Rattle.commands.specs.declared.phase.Phase.{Phase as Run}
 use Rattle.scenes.specs.declared.side.Side.{Side}
 use Rattle.scenes.specs.declared.scene.Scene.TheVariants.{Refresh}
@@ -21,19 +21,12 @@ use Rattle.scenes.specs.Law.{AreSides}
 use Rattle.scenes.specs.Lawful.{AreOrders}
 use Rattle.rehearsal_laws.specs.Down.{down_on}
 use Rattle.rehearsal_laws.specs.Played.{AreUncut, IsPlayed, play_under}
-use Rattle.rehearsal_laws.specs.Standing.{later_seeds, now_before, standing_before}
+use Rattle.rehearsal_laws.specs.Standing.{later_seeds, standing_before}
 use Rattle.rehearsal_laws.proofs.Downs.{few_beginners}
 use Rattle.rehearsal_laws.proofs.Fitting.{side_committee}
 use Rattle.rehearsal_laws.proofs.Refreshed.{refresh_down, refresh_is_play}
 use Rattle.recorder.specs.Begun.{HaveShares}
-use Rattle.recorder.proofs.Ready.{seeds_valid}
 use Rattle.recorder.proofs.Recording.{AreDown, IsReadOff, as_many, record_made}
-
--- there is a seed for each share file, wherever the phase stands
-pub seeds_anywhere : (number place : ℕ) (side : Side) (shares : List (Option (List Fp))) → HaveShares side shares → (other : ℕ) →
-    length (later_seeds number place side) ≡ seeds_for (standing_before other (Refresh side) shares)
-seeds_anywhere number place side shares have other =
-    seeds_valid number place side (now_before other side) have.0 ∙ sym (ap (λ (given : List (Option (List Fp))). seeds_for (standing_before other (Refresh side) given)) have.1)
 
 -- what the members found and drew is of the phase
 module _ (number place : ℕ) (side : Side) (shares : List (Option (List Fp))) (found : Standing) (here : found ≡ standing_before place (Refresh side) shares) (seeds : List (List ℕ)) (drawn : seeds ≡ later_seeds number place side) where

@@ -12,11 +12,9 @@ use Rattle.sharefile.specs.Files.{Now}
 use Rattle.keyroom.specs.declared.steps.Found.{Found}
 use Rattle.keyroom.specs.Sound.{is_valid}
 use Rattle.commands.specs.Move.{dealt_shares}
-use Rattle.commands.specs.Standing.{seeds_for}
 use Rattle.commands.proofs.Outs.{in_more, out_more}
-use Rattle.scenes.specs.declared.scene.Scene.{Scene}
-use Rattle.scenes.specs.Scenes.{is_drilled, old_side}
-use Rattle.rehearsal_laws.specs.Standing.{file_with, files_with, now_before, standing_before}
+use Rattle.scenes.specs.Scenes.{is_drilled}
+use Rattle.rehearsal_laws.specs.Standing.{file_with, files_with}
 
 -- ---- a list of what is made of some numbers
 -- one number more that is chosen
@@ -78,8 +76,3 @@ files_count now member (share ∷ shares) =
       ap one (one_more now member share),
       files_count now (member + 1) shares,
     )
-
--- as many in whatever place of the rehearsal the phase is
-pub any_place : (scene : Scene) (shares : List (Option (List Fp))) (place other count : ℕ) → count ≡ seeds_for (standing_before place scene shares) → count ≡ seeds_for (standing_before other scene shares)
-any_place scene shares place other count as_there =
-    as_there ∙ files_count (now_before place (old_side scene)) 1 shares ∙ sym (files_count (now_before other (old_side scene)) 1 shares)

@@ -24,9 +24,3 @@ abbrev pub MayGoOn : Scene → Standing → Type 0
 MayGoOn (Create side) standing = Unit {0}
 MayGoOn (Refresh side) standing = Unit {0}
 MayGoOn (Move old new) standing = MayMove standing new.members new.bound
-
--- a phase that is no create
-abbrev pub IsLater : Scene → Type 0
-IsLater (Create side) = ⊥
-IsLater (Refresh side) = Unit {0}
-IsLater (Move old new) = Unit {0}

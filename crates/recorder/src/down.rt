@@ -41,7 +41,7 @@ fn is_down(scene: &Scene, seat: u32) -> bool
 }
 
 /// Whether a member is drilled.
-fn is_drilled(side: &Side, member: u32) -> bool
+pub(crate) fn is_drilled(side: &Side, member: u32) -> bool
     ensures { result ≡ is_drilled side.now.drilled member }
 {
     match side.drilled {

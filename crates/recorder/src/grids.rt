@@ -14,6 +14,7 @@ ghost use Rattle.rehearsal_laws.specs.Standing.{standing_before};
 ghost use Rattle.recorder.specs.Begun.{HaveShares};
 ghost use Rattle.recorder.specs.Dealt.{AreGridsOf};
 
+use crate::down::is_drilled;
 use bivar61::{Grid, GridList};
 use chance61::Chance;
 use drillbook::Drill;
@@ -21,16 +22,6 @@ use field61::Fe;
 use lists::OutOfMemory;
 use scenes::Side;
 use std::alloc::Global;
-
-/// Whether a member is the drilled one.
-fn is_drilled(side: &Side, member: u32) -> bool
-    ensures { result ≡ is_drilled side.now.drilled member }
-{
-    match side.drilled {
-        Some(drilled) => drilled == member,
-        None => false,
-    }
-}
 
 /// What an old member deals as its shares: the drill may tell it to add something to each.
 fn dealt_shares(drill: &Drill, member: u32, lanes: &[Fe; 5]) -> [Fe; 5]

@@ -8,8 +8,9 @@ ghost use Rattle.scenes.specs.Law.{AreSides, IsSide};
 ghost use Rattle.scenes.specs.Lawful.{AreOrders};
 ghost use Rattle.scenes.specs.Orders.{shape_of};
 ghost use Rattle.scenes.specs.Scenes.{old_side};
+ghost use Rattle.rehearsal_laws.specs.Played.{IsLater};
 ghost use Rattle.rehearsal_laws.specs.Standing.{file_with, files_with, key_name, later_seeds, now_before, standing_before};
-ghost use Rattle.recorder.specs.Begun.{IsBegun, IsLater, MayGoOn};
+ghost use Rattle.recorder.specs.Begun.{IsBegun, MayGoOn};
 
 use commands::Asked;
 use field61::Fe;

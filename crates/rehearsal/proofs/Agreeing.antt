@@ -10,10 +10,7 @@ use Rattle.playback.specs.Shares.{shares_by}
 use Rattle.viewshift.specs.Listed.{course_of, phase_at}
 use Rattle.viewshift.specs.Fits.{FitsAt}
 use Rattle.viewshift.specs.Walk.{AreLeft, IsAt}
-use Rattle.rehearsal_laws.proofs.One.{same_shares}
-
-abbrev pub AgreeTo : List Phase → List Phase → ℕ → Type 0
-AgreeTo phases others n = (place : ℕ) → place < n → phase_at phases place ≡ phase_at others place
+use Rattle.rehearsal_laws.proofs.One.{AgreeTo, same_shares}
 
 pub agree_back : (phases others : List Phase) (n : ℕ) → AgreeTo phases others n → AgreeTo others phases n
 agree_back phases others n agree place lt = sym (agree place lt)

@@ -28,10 +28,10 @@ use Rattle.rehearsal_laws.specs.Played.{IsPlayed}
 use Rattle.rehearsal_laws.specs.Rehearsal.{ArePhases, IsPlayedAt, lanes_after, shares_before}
 use Rattle.rehearsal_laws.proofs.Fitting.{HasConstants, IsOf, first_fits, holder_down, holders_are, next_fits}
 use Rattle.rehearsal_laws.proofs.History.{fit_together}
-use Rattle.rehearsal_laws.proofs.One.{same_shares}
+use Rattle.rehearsal_laws.proofs.One.{AgreeTo, same_shares}
 use Rattle.rehearsal_laws.proofs.Phases.{constants_same, created_is, first_scene, later_scene, phase_is, played_constants, played_is}
 use Rattle.rehearsal.specs.Lived.{begun_with}
-use Rattle.rehearsal.proofs.Agreeing.{AgreeTo, agree_less, fits_to, is_at}
+use Rattle.rehearsal.proofs.Agreeing.{agree_less, fits_to, is_at}
 use Rattle.rehearsal.proofs.Beginning.{begun_is}
 
 -- a create begins with no shares, whatever is handed in

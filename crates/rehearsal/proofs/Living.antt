@@ -12,27 +12,21 @@ use Rattle.viewshift.specs.Fits.{FitsAt}
 use Rattle.viewshift.specs.Walk.{IsAt}
 use Rattle.viewshift.proofs.Standing.{all_there, together}
 use Rattle.scenes.specs.declared.scene.Scene.{Scene}
-use Rattle.scenes.specs.declared.scene.Scene.TheVariants.{Create, Refresh, Move}
 use Rattle.scenes.specs.declared.side.Side.{Side}
 use Rattle.scenes.specs.Scenes.{new_side, old_side, scene_at}
 use Rattle.scenes.proofs.Sides.{few_members, scenes_are}
-use Rattle.recorder.specs.Begun.{HaveShares, IsBegun}
+use Rattle.recorder.specs.Begun.{IsBegun}
+use Rattle.recorder.proofs.Begins.{begun_later}
 use Rattle.rehearsal_laws.specs.Played.{IsPlayed}
 use Rattle.rehearsal_laws.specs.Rehearsal.{ArePhases, accepted_in, lanes_after}
-use Rattle.rehearsal_laws.proofs.Downs.{IsLater}
 use Rattle.rehearsal_laws.proofs.Fitting.{holders_are}
+use Rattle.rehearsal_laws.proofs.One.{AgreeTo}
 use Rattle.rehearsal_laws.proofs.Phases.{first_scene, later_scene, phase_is}
 use Rattle.rehearsal.specs.Lived.{IsLived, begun_with}
 use Rattle.rehearsal.specs.declared.life.Life.{Life}
-use Rattle.rehearsal.proofs.Agreeing.{AgreeTo}
 use Rattle.rehearsal.proofs.Growing.{each_longer, grown, later_begun, still_at}
 
 -- ---- the shares with which the next phase begins
-later_begins : (place : ℕ) (scene : Scene) (begun : List (Option (List Fp))) → IsLater scene → 1 ≤ place → place ≤ 64 → HaveShares (old_side scene) begun → IsBegun place scene begun
-later_begins place (Create side) begun later some most have = tt
-later_begins place (Refresh side) begun later some most have = (some, most, have)
-later_begins place (Move old new) begun later some most have = (some, most, have)
-
 module _ (members bound number : ℕ) (size : is_size members ≡ true) (bounded : is_bound members bound ≡ true) where
   begins_at : (phases : List Phase) (n : ℕ) (shares : List (Option (List Fp))) → n ≤ length phases → n ≤ 64 → ArePhases members bound number phases → IsAt phases n shares →
       IsBegun n (scene_at members bound number n) (begun_with (old_side (scene_at members bound number n)).shareless shares)
@@ -40,7 +34,7 @@ module _ (members bound number : ℕ) (size : is_size members ≡ true) (bounded
       subst (λ (scene : Scene). IsBegun 0 scene (begun_with (old_side scene).shareless shares)) (sym (first_scene members bound number)) tt
   begins_at phases (suc last) shares le few are at =
       let got = together phases (suc last) at.each in
-      later_begins (suc last) (scene_at members bound number (suc last)) _ (later_scene members bound number last) (omega arith) few
+      begun_later (suc last) (scene_at members bound number (suc last)) _ (omega arith) few (later_scene members bound number last)
       (lanes_after (course_of phases []) got.0 last, later_begun members bound number size bounded phases last shares (phase_is members bound number phases size bounded are last (omega (arith, le))) at got.0 got.1)
 
   module _ (life : Life) (lived : IsLived members bound number life) (scene : Scene) (side : Side) (place : ℕ) (begun : List (Option (List Fp))) (here : place ≡ length life.phases)

@@ -1,6 +1,6 @@
 -- A life from its beginning, phase by phase, and the rehearsal that it is.
 use Rattle.std.proofs.Common.{◌≡◌, ℕ, ◌+◌, ◌-◌, ◌^◌, ◌<◌, true, min, List, [], length, get_or, sym, ap, ◌∙◌, subst, arith}
-use Rattle.std.proofs.lemmas.List.FromFn.{length-map-range_with_len, sum_by-map-range_with_len_more}
+use Rattle.std.proofs.lemmas.List.FromFn.{sum_by-map-range_with_len_more}
 use Rattle.algebra61.specs.Field.{Fp}
 use Rattle.sizes.specs.Committees.{is_bound, is_size}
 use Rattle.talk.specs.Shape.{seats}
@@ -14,9 +14,9 @@ use Rattle.scenes.specs.declared.scene.Scene.{Scene}
 use Rattle.scenes.specs.Orders.{shape_of}
 use Rattle.scenes.specs.Scenes.{scene_at}
 use Rattle.scenes.proofs.Filling.{scene_there}
-use Rattle.rehearsal_laws.specs.Rehearsal.{ArePhases, IsRehearsal, accepted_in, exposed_in, raised}
+use Rattle.rehearsal_laws.specs.Rehearsal.{ArePhases, IsRehearsal, accepted_in, exposed_in, raised, scenes_to}
 use Rattle.rehearsal_laws.proofs.History.{phases_make_history}
-use Rattle.rehearsal.specs.Lived.{IsLived, scenes_to, seats_in}
+use Rattle.rehearsal.specs.Lived.{IsLived, seats_in}
 use Rattle.rehearsal.specs.declared.life.Life.{Life}
 
 -- ---- before the first phase
@@ -44,9 +44,6 @@ pub attended_more : (before mid after here more all : ℕ) → mid ≡ min (befo
 attended_more before mid after here more all e f g = omega (arith, e, f, g)
 
 -- ---- all of them
-pub scenes_many : (members bound number count : ℕ) → length (scenes_to members bound number count) ≡ count
-scenes_many members bound number count = length-map-range_with_len (scene_at members bound number) 0 count
-
 pub lived_history : (members bound periods number : ℕ) (life : Life) (exposed : List ℕ) → is_size members ≡ true → is_bound members bound ≡ true → IsLived members bound number life → length life.phases ≡ periods + 1 →
     exposed ≡ exposed_in members bound number periods → AreHistory life.phases exposed
 lived_history members bound periods number life exposed size bounded lived count is =

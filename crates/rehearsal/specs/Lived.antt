@@ -2,14 +2,12 @@
 use Rattle.std.specs.Prelude.{◌≡◌, ℕ, ◌-◌, ◌≤◌, List, cond, length, map, get_or, Option, None}
 use Rattle.algebra61.specs.Field.{Fp}
 use Rattle.std.specs.List.{sum_by}
-use Rattle.talk.specs.Basics.{places}
 use Rattle.talk.specs.Shape.{seats}
 use Rattle.talk.specs.Sync.{has}
 use Rattle.plays.specs.Said.{points_up_to}
 use Rattle.viewshift.specs.Walk.{IsAt}
 use Rattle.scenes.specs.declared.scene.Scene.{Scene}
 use Rattle.scenes.specs.Orders.{shape_of}
-use Rattle.scenes.specs.Scenes.{scene_at}
 use Rattle.rehearsal_laws.specs.Rehearsal.{ArePhases, accepted_in}
 use Rattle.rehearsal.specs.declared.life.Life.{Life}
 
@@ -20,10 +18,6 @@ kept_of shareless shares member = cond (has shareless member) None (get_or share
 -- so it is for all of them
 abbrev pub begun_with : ℕ → List (Option (List Fp)) → List (Option (List Fp))
 begun_with shareless shares = map (kept_of shareless shares) (points_up_to (length shares))
-
--- the first n drawn phases
-abbrev pub scenes_to : ℕ → ℕ → ℕ → ℕ → List Scene
-scenes_to members bound number n = map (scene_at members bound number) (places n)
 
 -- how many seats phases have together
 abbrev pub seats_in : List Scene → ℕ

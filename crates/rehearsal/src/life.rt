@@ -7,7 +7,8 @@ ghost use Rattle.commands.specs.Causes.{IsFromCrew};
 ghost use Rattle.commands.specs.Crews.{Lent};
 ghost use Rattle.scenes.specs.Orders.{shape_of};
 ghost use Rattle.scenes.specs.Scenes.{scene_at};
-ghost use Rattle.rehearsal.specs.Lived.{IsLived, scenes_to, seats_in};
+ghost use Rattle.rehearsal_laws.specs.Rehearsal.{scenes_to};
+ghost use Rattle.rehearsal.specs.Lived.{IsLived, seats_in};
 
 use crate::begun::begun_with;
 use field61::{Fe, NumberList};

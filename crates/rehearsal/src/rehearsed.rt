@@ -5,8 +5,8 @@ ghost use Rattle.sizes.specs.Committees.{is_bound, is_size};
 ghost use Rattle.viewshift.specs.Fits.{AreHistory};
 ghost use Rattle.commands.specs.Causes.{IsFromCrew};
 ghost use Rattle.commands.specs.Crews.{Lent};
-ghost use Rattle.rehearsal_laws.specs.Rehearsal.{IsRehearsal, raised};
-ghost use Rattle.rehearsal.specs.Lived.{scenes_to, seats_in};
+ghost use Rattle.rehearsal_laws.specs.Rehearsal.{IsRehearsal, raised, scenes_to};
+ghost use Rattle.rehearsal.specs.Lived.{seats_in};
 ghost use Rattle.rehearsal.specs.Told.{Rehearses};
 
 use crate::life::live;

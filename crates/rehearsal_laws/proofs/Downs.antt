@@ -12,12 +12,7 @@ use Rattle.scenes.specs.Law.{AreSides}
 use Rattle.scenes.specs.Orders.{shape_of}
 use Rattle.scenes.specs.Scenes.{is_down_on, is_drilled, new_side, old_side}
 use Rattle.rehearsal_laws.specs.Down.{down_on}
-
--- a later phase is no create
-abbrev pub IsLater : Scene → Type 0
-IsLater (Create side) = ⊥
-IsLater (Refresh side) = Unit {0}
-IsLater (Move old new) = Unit {0}
+use Rattle.rehearsal_laws.specs.Played.{IsLater}
 
 -- ---- the setting
 pub receivers_are : (scene : Scene) → (shape_of scene).receivers ≡ (new_side scene).members

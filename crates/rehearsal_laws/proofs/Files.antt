@@ -38,7 +38,8 @@ module _ (now : Now) (without : ℕ → Bool) (lanes : ℕ → List Fp) where
   pub length_files : (n : ℕ) → length (files_with now 1 (shares_given without lanes n)) ≡ n
   length_files n = length_from 1 n
 
-valid_unless : (now : Now) (member : ℕ) (without : Bool) (shares : List Fp) → is_valid (file_with now member (unless_down without shares)) ≡ not without
+-- it is valid where the member isn't without
+pub valid_unless : (now : Now) (member : ℕ) (without : Bool) (shares : List Fp) → is_valid (file_with now member (unless_down without shares)) ≡ not without
 valid_unless now member true shares = refl
 valid_unless now member false shares = refl
 

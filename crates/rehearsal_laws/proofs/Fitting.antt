@@ -21,9 +21,9 @@ use Rattle.scenes.specs.Law.{AreSides, IsSide, Follows}
 use Rattle.scenes.specs.Orders.{shape_of}
 use Rattle.scenes.specs.Scenes.{is_down_on, new_side, old_side}
 use Rattle.commands.proofs.Committees.{committee_of}
-use Rattle.rehearsal_laws.specs.Played.{kind_in}
+use Rattle.rehearsal_laws.specs.Played.{IsLater, kind_in}
 use Rattle.rehearsal_laws.specs.Down.{down_on}
-use Rattle.rehearsal_laws.proofs.Downs.{IsLater, receivers_are, bound_is, old_seats, receiver_down, beginner_down, few_receivers, few_beginners}
+use Rattle.rehearsal_laws.proofs.Downs.{receivers_are, bound_is, old_seats, receiver_down, beginner_down, few_receivers, few_beginners}
 
 -- the record is one of the drawn phase, in which they are down who have no shares or are drilled
 pub record IsOf (scene : Scene) (phase : Phase) : Type 0 where

@@ -27,7 +27,7 @@ use Rattle.rehearsal_laws.proofs.Phases.{first_scene}
 use Rattle.rehearsal_laws.proofs.Same.{one_begun, one_created}
 
 -- the first phases of two lists are the same
-abbrev AgreeTo : List Phase → List Phase → ℕ → Type 0
+abbrev pub AgreeTo : List Phase → List Phase → ℕ → Type 0
 AgreeTo phases others n = (place : ℕ) → place < n → phase_at phases place ≡ phase_at others place
 
 -- so they leave the same shares, with the same error vectors

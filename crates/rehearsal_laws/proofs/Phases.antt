@@ -28,11 +28,10 @@ use Rattle.scenes.specs.Orders.{shape_of}
 use Rattle.scenes.specs.Scenes.{coming_side, new_side, old_side, scene_at, side_drawn, staying_side}
 use Rattle.scenes.proofs.LawfulOrders.{orders_are}
 use Rattle.scenes.proofs.Sides.{scenes_are}
-use Rattle.rehearsal_laws.specs.Played.{IsPlayed, kind_in, play_under}
+use Rattle.rehearsal_laws.specs.Played.{IsLater, IsPlayed, kind_in, play_under}
 use Rattle.rehearsal_laws.specs.Rehearsal.{ArePhases, lanes_after}
 use Rattle.rehearsal_laws.proofs.Created.{create_is_play, create_down, create_has_grids}
 use Rattle.rehearsal_laws.specs.Down.{down_on}
-use Rattle.rehearsal_laws.proofs.Downs.{IsLater}
 use Rattle.rehearsal_laws.proofs.Fitting.{IsOf, HasConstants}
 use Rattle.rehearsal_laws.proofs.Moved.{move_constants, move_is_play, move_down, move_has_grids}
 use Rattle.rehearsal_laws.proofs.Refreshed.{refresh_is_play, refresh_down, refresh_has_grids}

@@ -16,6 +16,12 @@ use Rattle.scenes.specs.declared.scene.Scene.TheVariants.{Create, Refresh, Move}
 use Rattle.scenes.specs.Orders.{orders_of}
 use Rattle.rehearsal_laws.specs.Standing.{standing_before, first_seeds, later_seeds}
 
+-- a later phase is no create
+abbrev pub IsLater : Scene → Type 0
+IsLater (Create side) = ⊥
+IsLater (Refresh side) = Unit {0}
+IsLater (Move old new) = Unit {0}
+
 -- the kind of a phase
 abbrev pub kind_in : Scene → PhaseKind
 kind_in (Create side) = kind.Create

@@ -13,12 +13,17 @@ use Rattle.viewshift.specs.Kept.{HistoryValue}
 use Rattle.viewshift.specs.Listed.{course_of, phase_at}
 use Rattle.viewshift.specs.Others.{IsTranslation, meant}
 use Rattle.commands.specs.Phase.{shares_given}
+use Rattle.scenes.specs.declared.scene.Scene.{Scene}
 use Rattle.scenes.specs.declared.side.Side.{Side}
 use Rattle.scenes.specs.Exposed.{exposed_at}
 use Rattle.scenes.specs.Scenes.{old_side, scene_at}
 use Rattle.rehearsal_laws.specs.Played.{IsPlayed}
 
 -- ---- the phases
+-- the first of them, as they are drawn
+abbrev pub scenes_to : ℕ → ℕ → ℕ → ℕ → List Scene
+scenes_to members bound number count = map (scene_at members bound number) (places count)
+
 -- the five shares of a member after a phase, where the moves have these error vectors
 abbrev pub lanes_after : Course → (ℕ → List (List Fp)) → ℕ → ℕ → List Fp
 lanes_after course errors phase member = map (λ lane. share_after_phase course errors phase lane member) (places 5)

@@ -5,14 +5,14 @@ use Rattle.playback.specs.Recorded.{play_of}
 use Rattle.playback.specs.declared.phase.Phase.{Phase}
 use Rattle.scenes.specs.declared.scene.Scene.{Scene}
 use Rattle.scenes.proofs.Filling.{scenes_count}
-use Rattle.playbill.specs.Printed.{scenes_in}
+use Rattle.rehearsal_laws.specs.Rehearsal.{scenes_to}
 use Rattle.playbill.specs.Text.{rehearsal_text}
 use Rattle.playbill.proofs.Sides.{sides_are}
 use Rattle.committee.proofs.rehearse.text_of.Goals as goal
 
 pub rehearse_text-requires-clause-counts : goal.rehearse_text-requires-clause-counts
 rehearse_text-requires-clause-counts c =
-    let drawn : c.deref.result.now ≡ scenes_in c.args.committee.members c.args.committee.bound c.args.periods c.args.number = search rules in
+    let drawn : c.deref.result.now ≡ scenes_to c.args.committee.members c.args.committee.bound c.args.number (c.args.periods + 1) = search rules in
     ap length c.requires.rehearsed.accepted_is
     ∙ length-map c.args.rehearsed.now.history.phases (λ (phase : Phase). accepted_count (play_of phase))
     ∙ c.requires.rehearsed.count
@@ -20,12 +20,12 @@ rehearse_text-requires-clause-counts c =
 
 pub rehearse_text-requires-clause-sides : goal.rehearse_text-requires-clause-sides
 rehearse_text-requires-clause-sides c =
-    let drawn : c.deref.result.now ≡ scenes_in c.args.committee.members c.args.committee.bound c.args.periods c.args.number = search rules in
+    let drawn : c.deref.result.now ≡ scenes_to c.args.committee.members c.args.committee.bound c.args.number (c.args.periods + 1) = search rules in
     sides_are c.args.committee.members c.args.committee.bound c.args.number (c.args.periods + 1) c.deref.result.now c.requires.size c.requires.bound drawn
 
 pub returns : goal.returns
 returns c =
-    let drawn : c.deref.result.now ≡ scenes_in c.args.committee.members c.args.committee.bound c.args.periods c.args.number = search rules in
+    let drawn : c.deref.result.now ≡ scenes_to c.args.committee.members c.args.committee.bound c.args.number (c.args.periods + 1) = search rules in
     record {
       history = c.args.rehearsed.now.history;
       other = c.args.rehearsed.now.other;

@@ -2,8 +2,10 @@ use Rattle.std.proofs.Common.{◌∙◌, length, refl, ap}
 use Rattle.std.proofs.lemmas.Result.{err_from_is_err_and}
 use Rattle.playback.specs.declared.phase.PhaseKind.TheVariants as kind
 use Rattle.commands.specs.Phase.{standing_of}
+use Rattle.scenes.specs.declared.scene.Scene.TheVariants.{Move}
 use Rattle.rehearsal_laws.specs.Standing.{later_seeds}
-use Rattle.recorder.proofs.Moves.{by_crew, marks_here, move_counted, move_played, seeds_there}
+use Rattle.recorder.proofs.Moves.{by_crew, marks_here, move_counted, move_played}
+use Rattle.recorder.proofs.Ready.{seeds_anywhere}
 use Rattle.recorder.proofs.Unasked.{unasked}
 use Rattle.recorder.proofs.moved.record_move.Goals as goal
 
@@ -20,7 +22,9 @@ moved_said-requires-clause-marks g c =
     c.in_ok-run.run'.masks c.down_seats-down.result c.in_ok-run.ensures.left.masks c.down_seats-down.ensures.marks
 
 pub moved_grids-requires-clause-seeds : goal.moved_grids-requires-clause-seeds
-moved_grids-requires-clause-seeds g c = λ place. ap length (◌∙◌ {c = later_seeds c.args.number c.args.place c.args.old} c.deref-5.ensures.value c.in_ok-seeds.ensures) ∙ seeds_there c.args.number c.args.place c.args.old c.args.new c.args.shares.now c.requires.begun.2 c.requires.sides c.requires.told place
+moved_grids-requires-clause-seeds g c = λ place.
+    ap length (◌∙◌ {c = later_seeds c.args.number c.args.place c.args.old} c.deref-5.ensures.value c.in_ok-seeds.ensures)
+    ∙ seeds_anywhere c.args.number c.args.place (Move c.args.old c.args.new) c.args.shares.now c.requires.begun.2 place
 
 pub returns-clause-played : goal.returns-clause-played
 returns-clause-played g c =

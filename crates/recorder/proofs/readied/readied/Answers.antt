@@ -5,7 +5,7 @@ use Rattle.commands.specs.Standing.{seeds_for}
 use Rattle.rehearsal_laws.specs.Standing.{now_before, standing_before}
 use Rattle.scenes.specs.Scenes.{old_side}
 use Rattle.recorder.specs.Begun.{MayGoOn}
-use Rattle.recorder.proofs.Ready.{begins, goes_on, ready, seeds_there}
+use Rattle.recorder.proofs.Ready.{begins, goes_on, ready, seeds_anywhere}
 use Rattle.recorder.proofs.readied.readied.Goals as goal
 
 pub returns-clause-ready : goal.returns-clause-ready
@@ -26,4 +26,4 @@ pub returns-clause-seeds : goal.returns-clause-seeds
 returns-clause-seeds c number =
     let b = begins c.args.place c.args.scene.now c.args.shares.now c.requires.later c.requires.begun in
     let same : standing_of (record { file = c.now_before-file.result; files = c.in_ok-files.files; drill = c.in_ok-drill.drill }) ≡ standing_before c.args.place c.args.scene.now c.args.shares.now = search rules in
-    seeds_there c.args.place c.args.scene.now c.args.shares.now c.requires.sides c.requires.told c.requires.later b.1 b.2 number ∙ sym (ap seeds_for same)
+    seeds_anywhere number c.args.place c.args.scene.now c.args.shares.now b.2 c.args.place ∙ sym (ap seeds_for same)

@@ -9,8 +9,9 @@ use Rattle.commands.specs.Standing.{Standing, down_in}
 use Rattle.scenes.specs.declared.scene.Scene.TheVariants.{Refresh}
 use Rattle.rehearsal_laws.specs.Played.{play_under}
 use Rattle.rehearsal_laws.specs.Standing.{standing_before}
+use Rattle.recorder.proofs.Ready.{seeds_anywhere}
 use Rattle.recorder.proofs.Recording.{IsReadOff, marks_down}
-use Rattle.recorder.proofs.Refreshes.{refresh_counted, refresh_downs, refresh_here, refresh_played, refresh_said, seeds_anywhere}
+use Rattle.recorder.proofs.Refreshes.{refresh_counted, refresh_downs, refresh_here, refresh_played, refresh_said}
 use Rattle.recorder.proofs.Unasked.{unasked}
 use Rattle.recorder.proofs.refreshed.record_refresh.Given.{Over}
 use Rattle.recorder.proofs.refreshed.record_refresh.Goals as goal
@@ -27,7 +28,7 @@ refreshed_said-requires-clause-marks g c =
 
 pub refreshed_grids-requires-clause-seeds : goal.refreshed_grids-requires-clause-seeds
 refreshed_grids-requires-clause-seeds g c other =
-    ap length (c.deref-5.ensures.value ∙ c.in_ok-seeds.ensures) ∙ seeds_anywhere c.args.number c.args.place c.args.side c.args.shares.now c.requires.begun.2 other
+    ap length (c.deref-5.ensures.value ∙ c.in_ok-seeds.ensures) ∙ seeds_anywhere c.args.number c.args.place (Refresh c.args.side) c.args.shares.now c.requires.begun.2 other
 
 -- the phase that is answered
 abbrev phase : (g : Over) → goal.After-drop-asked-3 g → Phase

@@ -3,7 +3,8 @@ use Rattle.talk.specs.Shape.{seats}
 use Rattle.scenes.specs.declared.scene.Scene.{Scene}
 use Rattle.scenes.specs.Orders.{shape_of}
 use Rattle.scenes.specs.Scenes.{scene_at}
-use Rattle.rehearsal.specs.Lived.{scenes_to, seats_in}
+use Rattle.rehearsal_laws.specs.Rehearsal.{scenes_to}
+use Rattle.rehearsal.specs.Lived.{seats_in}
 use Rattle.rehearsal.proofs.Played.{attended_more, next_scene, nothing_lived, seats_more}
 use Rattle.rehearsal.proofs.life.live.Goals as goal
 

@@ -1,6 +1,7 @@
 use Rattle.std.proofs.Common.{◌≡◌, ◌+◌, ◌-◌, ◌^◌, length, min}
 use Rattle.commands.specs.Crews.{Lent}
-use Rattle.rehearsal.specs.Lived.{IsLived, scenes_to, seats_in}
+use Rattle.rehearsal_laws.specs.Rehearsal.{scenes_to}
+use Rattle.rehearsal.specs.Lived.{IsLived, seats_in}
 use Rattle.rehearsal.proofs.life.live.Given as goal
 
 abbrev pub invariant-loop-place : goal.invariant-loop-place
