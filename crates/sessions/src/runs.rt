@@ -2,6 +2,7 @@ ghost use Rattle.std.specs.Prelude.{◌≤◌};
 
 mod held;
 mod late;
+mod rehearsed;
 
 use committee::{Crew, Pace, Status, run};
 use crews::{FailCrew, ThreadCrew};
